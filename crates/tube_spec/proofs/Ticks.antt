@@ -1,14 +1,13 @@
 -- Where a tick stands in the grid, and what a box gives there.
-use Rattle.std.proofs.Common.{◌≡◌, ℕ, zero, suc, ◌+◌, ◌-◌, ◌*◌, ◌<◌, ◌≤◌, ◌⊎◌, inl, inr, List, [], ◌∷◌, cond, leb, ltb, length, slice_index, arith, refl, sym, ap, subst, ◌∙◌, add-zero}
+use Rattle.std.proofs.Common.{◌≡◌, ℕ, zero, suc, ◌+◌, ◌-◌, ◌*◌, ◌<◌, ◌≤◌, ◌⊎◌, inl, inr, List, [], ◌∷◌, cond, leb, ltb, length, slice_index, arith, refl, sym, ap, subst, ◌∙◌}
 use Rattle.std.proofs.lemmas.Bool.Decides.{nat_tests}
 use Rattle.std.proofs.lemmas.Int.{ints}
 use Rattle.tube_spec.specs.Span.{Span, Holds, IsWithin, point}
 use Rattle.tube_spec.specs.Grid.{IsGrid, last_tick}
 use Rattle.tube_spec.specs.Shape.{Shape, gate_cell, envelope_cell, slice_width}
 use Rattle.tube_spec.specs.Box.{cell_at, IsBelow}
-use Rattle.tube_spec.specs.Tick.{tick_place, tick_cell, at_tick, join_over}
+use Rattle.tube_spec.specs.Tick.{tick_place, tick_cell, at_tick}
 use Rattle.tube_spec.specs.Assignment.{Assignment, value_at, hull_over, IsHull}
-use Rattle.tube_spec.proofs.Spans.{IsWithin-refl, IsWithin-trans, join-left, join-right, join-least}
 use Rattle.tube_spec.proofs.Assignments.{value-within}
 
 -- each boundary is below the next
@@ -38,6 +37,23 @@ first-least (a ∷ (b ∷ rest)) up (suc i) l =
     let below : a < b = up 0 (omega arith) in
     let later = first-least (b ∷ rest) (rises-tail a (b ∷ rest) up) i (omega (arith, l)) in
     omega (arith, below, later)
+
+last_tick-cons : (a b : ℕ) (rest : List ℕ) → last_tick (a ∷ (b ∷ rest)) ≡ last_tick (b ∷ rest)
+last_tick-cons a b rest =
+    let e : length (a ∷ (b ∷ rest)) - 1 ≡ suc (length (b ∷ rest) - 1) = omega arith in
+    ap (λ (m : ℕ). slice_index (a ∷ (b ∷ rest)) m) e
+
+-- the last boundary is the greatest
+pub last-greatest : (grid : List ℕ) → Rises grid → (i : ℕ) → i < length grid → slice_index grid i ≤ last_tick grid
+last-greatest [] up i l = absurd (omega (arith, l))
+last-greatest (a ∷ []) up zero l = let e : last_tick (a ∷ []) ≡ a = refl in omega (arith, e)
+last-greatest (a ∷ []) up (suc i) l = absurd (omega (arith, l))
+last-greatest (a ∷ (b ∷ rest)) up zero l =
+    let below : a < b = up 0 (omega arith) in
+    let later = last-greatest (b ∷ rest) (rises-tail a (b ∷ rest) up) 0 (omega arith) in
+    subst (λ (t : ℕ). a ≤ t) (sym (last_tick-cons a b rest)) (omega (arith, below, later))
+last-greatest (a ∷ (b ∷ rest)) up (suc i) l =
+    subst (λ (t : ℕ). slice_index (b ∷ rest) i ≤ t) (sym (last_tick-cons a b rest)) (last-greatest (b ∷ rest) (rises-tail a (b ∷ rest) up) i (omega (arith, l)))
 
 -- a boundary stands at its gate
 pub tick_place-gate : (grid : List ℕ) → Rises grid → (i : ℕ) → i < length grid → tick_place grid (slice_index grid i) ≡ 2 * i
@@ -74,20 +90,15 @@ AtBoundary grid k = (i : ℕ) × (i < length grid) × (slice_index grid i ≡ k)
 abbrev pub InSlice : List ℕ → ℕ → Type 0
 InSlice grid k = (i : ℕ) × (i + 1 < length grid) × (slice_index grid i < k) × (k < slice_index grid (i + 1))
 
-last_tick-cons : (a b : ℕ) (rest : List ℕ) → last_tick (a ∷ (b ∷ rest)) ≡ last_tick (b ∷ rest)
-last_tick-cons a b rest =
-    let e : length (a ∷ (b ∷ rest)) - 1 ≡ suc (length (b ∷ rest) - 1) = omega arith in
-    ap (λ (m : ℕ). slice_index (a ∷ (b ∷ rest)) m) e
-
 pub tick-split : (grid : List ℕ) → 1 ≤ length grid → (k : ℕ) → slice_index grid 0 ≤ k → k ≤ last_tick grid → AtBoundary grid k ⊎ InSlice grid k
 tick-split [] some k low high = absurd (omega (arith, some))
 tick-split (a ∷ []) some k low high = let e : slice_index (a ∷ []) 0 ≡ k = omega (arith, low, high) in inl (0, omega arith, e)
 tick-split (a ∷ (b ∷ rest)) some k low high = elim (three k a b low) [
   | inl e ↦ inl (0, omega arith, e)
   | inr more ↦ elim more [
-      | inl inside ↦ inr (0, omega arith, inside.0, inside.1)
-      | inr past ↦ later (tick-split (b ∷ rest) (omega arith) k past (subst (λ (t : ℕ). k ≤ t) (last_tick-cons a b rest) high))
-    ]
+    | inl inside ↦ inr (0, omega arith, inside.0, inside.1)
+    | inr past ↦ later (tick-split (b ∷ rest) (omega arith) k past (subst (λ (t : ℕ). k ≤ t) (last_tick-cons a b rest) high))
+  ]
 ]
   where
     three : (k a b : ℕ) → a ≤ k → (a ≡ k) ⊎ (((a < k) × (k < b)) ⊎ (b ≤ k))
@@ -107,17 +118,17 @@ at_tick-hull s a xs grid hull signal k named low = at (tick-split s.grid (omega 
     at (inl h) =
         let place : tick_place s.grid k ≡ 2 * h.0 = subst (λ (t : ℕ). tick_place s.grid t ≡ 2 * h.0) h.2 (tick_place-gate s.grid grid.rising h.0 h.1) in
         let cell : at_tick s xs signal k ≡ point (value_at a signal k) =
-            ap (λ (p : ℕ). cell_at xs (slice_index s.signals signal + p)) place ∙ hull.gates signal h.0 named h.1 ∙ ap (λ (t : ℕ). point (value_at a signal t)) h.2 in
+        ap (λ (p : ℕ). cell_at xs (slice_index s.signals signal + p)) place ∙ hull.gates signal h.0 named h.1 ∙ ap (λ (t : ℕ). point (value_at a signal t)) h.2 in
         subst (λ (x : Span). Holds x (value_at a signal k)) (sym cell) (record { low = omega (arith, ints); high = omega (arith, ints) })
     at (inr h) =
         let place : tick_place s.grid k ≡ 2 * h.0 + 1 = tick_place-inside s.grid grid.rising h.0 k h.1 h.2 h.3 in
         let e : slice_index s.signals signal + (2 * h.0 + 1) ≡ envelope_cell s signal h.0 = omega arith in
         let cell : at_tick s xs signal k ≡ hull_over (value_at a signal) (slice_index s.grid h.0) (slice_width s h.0) =
-            ap (λ (p : ℕ). cell_at xs (slice_index s.signals signal + p)) place ∙ ap (cell_at xs) e ∙ hull.envelopes signal h.0 named h.1 in
+        ap (λ (p : ℕ). cell_at xs (slice_index s.signals signal + p)) place ∙ ap (cell_at xs) e ∙ hull.envelopes signal h.0 named h.1 in
         let there : slice_index s.grid h.0 + (k - slice_index s.grid h.0) ≡ k = omega (arith, h.2) in
         let inside = value-within (value_at a signal) (slice_index s.grid h.0) (slice_width s h.0) (k - slice_index s.grid h.0) (omega (arith, h.2, h.3)) in
         let here : IsWithin (point (value_at a signal k)) (hull_over (value_at a signal) (slice_index s.grid h.0) (slice_width s h.0)) =
-            subst (λ (t : ℕ). IsWithin (point (value_at a signal t)) (hull_over (value_at a signal) (slice_index s.grid h.0) (slice_width s h.0))) there inside in
+        subst (λ (t : ℕ). IsWithin (point (value_at a signal t)) (hull_over (value_at a signal) (slice_index s.grid h.0) (slice_width s h.0))) there inside in
         subst (λ (x : Span). Holds x (value_at a signal k)) (sym cell) (record { low = here.low; high = here.high })
 
 -- What lies in a box has each of its values in what the box gives at the tick.
@@ -130,20 +141,3 @@ at_tick-holds s a q xs grid hull below signal k named low =
     let inner = at_tick-hull s a q grid hull signal k named low in
     let wider = at_tick-below s q xs below signal k in
     record { low = omega (arith, ints, inner.low, wider.low); high = omega (arith, ints, inner.high, wider.high) }
-
--- each span of a family lies within the hull of those over a range that holds it
-pub join_over-holds : (f : ℕ → Span) (a n k : ℕ) → k ≤ n → IsWithin (f (a + k)) (join_over f a n)
-join_over-holds f a zero k h = let e : a + k ≡ a = omega arith in subst (λ (t : ℕ). IsWithin (f t) (f a)) (sym e) (IsWithin-refl (f a))
-join_over-holds f a (suc n) k h =
-    elim (last k n h) [
-      | inl l ↦ IsWithin-trans (f (a + k)) (join_over f a n) (join_over f a (suc n)) (join_over-holds f a n k l) (join-left (join_over f a n) (f (a + suc n)))
-      | inr e ↦ subst (λ (j : ℕ). IsWithin (f (a + j)) (join_over f a (suc n))) (sym e) (join-right (join_over f a n) (f (a + suc n)))
-    ]
-  where
-    last : (k n : ℕ) → k ≤ suc n → (k ≤ n) ⊎ (k ≡ suc n)
-    last k n h = grind arith
-
--- and that hull is the least
-pub join_over-least : (f : ℕ → Span) (a n : ℕ) (t : Span) → ((k : ℕ) → k ≤ n → IsWithin (f (a + k)) t) → IsWithin (join_over f a n) t
-join_over-least f a zero t h = subst (λ (k : ℕ). IsWithin (f k) t) (add-zero a) (h 0 (omega arith))
-join_over-least f a (suc n) t h = join-least (join_over f a n) (f (a + suc n)) t (join_over-least f a n t (λ k l. h k (omega (arith, l)))) (h (suc n) (omega arith))
