@@ -1,10 +1,10 @@
 -- The definitions tried on numbers.
 use Rattle.std.proofs.Common.{◌≡◌, ℕ, zero, suc, ◌<◌, Option, Some, None, List, [], ◌∷◌, ℤ, pos, negsuc, arith, refl, slice_index_or, length, IsTrue, Bool, true, false, int_le, ◌&&◌}
-use Rattle.std.proofs.lemmas.Int.{ints, clamps}
+use Rattle.std.proofs.lemmas.Int.{ints}
 use Rattle.std.proofs.lemmas.List.Elements.{All-from_recursion}
-use Rattle.tube_spec.specs.Span.{Span, IsWithin, IsProper, point, meet_of, join_of, add_of, sub_of, times_of, scale_of, width_of}
+use Rattle.tube_spec.specs.Span.{Span, IsWithin, point, meet_of, join_of, add_of, sub_of, times_of, scale_of, width_of}
 use Rattle.tube_spec.specs.Hull.{proper, hull_below}
-use Rattle.tube_spec.specs.Box.{cell_at, IsBox, IsBelow, IsBelowBox, measure_of}
+use Rattle.tube_spec.specs.Box.{cell_at, IsBelow, measure_of}
 use Rattle.tube_spec.specs.Tick.{tick_place, at_tick, over_ticks}
 use Rattle.tube_spec.specs.Projection.{Projection, IsStable, holds_by}
 use Rattle.tube_spec.specs.Fixpoint.{IsFixpoint, IsGreatest}

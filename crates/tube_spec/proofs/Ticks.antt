@@ -4,7 +4,7 @@ use Rattle.std.proofs.lemmas.Bool.Decides.{nat_tests}
 use Rattle.std.proofs.lemmas.Int.{ints}
 use Rattle.tube_spec.specs.Span.{Span, Holds, IsWithin, point}
 use Rattle.tube_spec.specs.Grid.{IsGrid, last_tick}
-use Rattle.tube_spec.specs.Shape.{Shape, gate_cell, envelope_cell, slice_width}
+use Rattle.tube_spec.specs.Shape.{Shape, envelope_cell, slice_width}
 use Rattle.tube_spec.specs.Box.{cell_at, IsBelow}
 use Rattle.tube_spec.specs.Tick.{tick_place, tick_cell, at_tick}
 use Rattle.tube_spec.specs.Assignment.{Assignment, value_at, hull_over, IsHull}
