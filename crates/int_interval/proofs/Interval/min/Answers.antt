@@ -1,0 +1,13 @@
+use Rattle.std.proofs.Common.{rules, subst, arith}
+use Rattle.std.specs.Int.{int_min}
+use Rattle.std.proofs.lemmas.Int.{ints, clamps}
+use Rattle.tube_spec.specs.Span.{IsProper}
+use Rattle.int_interval.specs.Image.{min_of}
+use Rattle.int_interval.proofs.Images.{min-image, image_of_two-same}
+use Rattle.int_interval.proofs.Interval.min.Goals as goal
+
+pub invariant_of-result : goal.invariant_of-result
+invariant_of-result c = (omega (arith, ints, clamps), record { low = omega (arith, ints, clamps); high = omega (arith, ints, clamps) })
+
+pub returns-clause-image : goal.returns-clause-image
+returns-clause-image c = image_of_two-same int_min c.args.self c.args.other _ (min_of c.args.self c.args.other) (search rules) (min-image c.args.self c.args.other (subst IsProper c.self.view_is c.self.invariant.0) (subst IsProper c.other.view_is c.other.invariant.0))

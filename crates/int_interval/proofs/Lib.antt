@@ -1,0 +1,4 @@
+pub mod Products
+pub mod Hulls
+pub mod Images
+pub mod Monotone
