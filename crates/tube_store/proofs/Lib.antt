@@ -1,0 +1,4 @@
+pub mod Ring
+pub mod Kept
+pub mod Cells
+pub mod Adding

@@ -1,0 +1,4 @@
+pub mod Touched
+pub mod State
+pub mod Kept
+pub mod Cuts
