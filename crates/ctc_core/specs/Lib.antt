@@ -1,0 +1,4 @@
+pub mod Revising
+pub mod Answers
+pub mod Checking
+pub mod Given
