@@ -1,0 +1,5 @@
+pub mod Ends
+pub mod Bounds
+pub mod Printed
+pub mod Solid
+pub mod KindWords

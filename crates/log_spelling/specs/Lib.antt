@@ -1,0 +1,5 @@
+pub mod Blanks
+pub mod Numbers
+pub mod Names
+pub mod Kinds
+pub mod Laws
