@@ -11,6 +11,8 @@ ghost use Rattle.std.specs.Int.{int_min, int_max};
 ghost use Rattle.tube_spec.specs.Span.{Span, IsProper, IsBounded, IsWithin, Holds, meet_of, join_of, add_of, sub_of, scale_of, width_of};
 ghost use Rattle.int_interval.specs.Image.{IsImage, IsImageOfTwo, IsMeeting, IsUnion, int_abs, neg_of, abs_of, min_of, max_of, mul_of, sqr_of};
 
+mod backward;
+
 use std::marker::Model;
 
 /// The greatest absolute value of a bound.
