@@ -1,0 +1,14 @@
+//! The words of the command line, read by one simple command of `clap`.
+//!
+//! The command is `codac_cli MODE [--budget N] [--order ORDER] [--brief] [--seed N]`, with no help and no version flag.
+#![tactic(auto)]
+
+pub mod answer;
+mod command;
+#[cfg(test)]
+mod tests;
+pub mod words;
+pub mod worked;
+
+pub use answer::{Asked, Mode, OrderWord, read_words};
+pub use words::Words;

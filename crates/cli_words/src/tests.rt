@@ -1,0 +1,90 @@
+//! Command lines, read with ample memory.
+
+use super::*;
+use std::alloc::Global;
+use tube_io::NoMemory;
+
+const GREATEST: u64 = 1_000_000_000_000_000_000;
+
+// What the words of a line, parted by single spaces, ask for.
+fn asked(alloc: Global, line: &str) -> Result<Option<Asked>, NoMemory> {
+    let mut words = Words::new(alloc);
+    for word in line.split(' ') {
+        words.push(alloc, word)?;
+    }
+    read_words(alloc, &words)
+}
+
+#[test]
+fn taken_lines(rt: HostRuntime) -> Result<(), NoMemory> {
+    for (line, mode, budget, order, brief, seed) in [
+        ("solve", Mode::Solve, GREATEST, OrderWord::Fifo, false, 1),
+        (
+            "loops --brief",
+            Mode::Loops,
+            GREATEST,
+            OrderWord::Fifo,
+            true,
+            1,
+        ),
+        (
+            "demo --seed=+7",
+            Mode::Demo,
+            GREATEST,
+            OrderWord::Fifo,
+            false,
+            7,
+        ),
+        (
+            "--order rank --budget 0 -- solve",
+            Mode::Solve,
+            0,
+            OrderWord::Rank,
+            false,
+            1,
+        ),
+        (
+            "--brief solve --order=lifo --budget +5",
+            Mode::Solve,
+            5,
+            OrderWord::Lifo,
+            true,
+            1,
+        ),
+    ] {
+        let want = Asked {
+            mode,
+            budget,
+            order,
+            brief,
+            seed,
+        };
+        assert_eq!(rt; asked(rt.alloc(), line)?, Some(want), "{line}");
+    }
+    Ok(())
+}
+
+#[test]
+fn refused_lines(rt: HostRuntime) -> Result<(), NoMemory> {
+    assert_eq!(rt; read_words(rt.alloc(), &Words::new(rt.alloc()))?, None);
+    for line in [
+        "",
+        "?",
+        "solve fast",
+        "Solve",
+        "solve --order random",
+        "solve --budget 1000000000000000001",
+        "solve --budget 1e3",
+        "demo --seed -1",
+        "demo --seed 1 --seed 1",
+        "solve --brief --brief",
+        "solve --bri",
+        "solve --order",
+        "--help",
+        "-h",
+        "--version",
+    ] {
+        assert_eq!(rt; asked(rt.alloc(), line)?, None, "{line}");
+    }
+    Ok(())
+}
