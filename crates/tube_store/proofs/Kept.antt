@@ -1,12 +1,12 @@
 -- What a store's invariant says of its view.
-use Rattle.std.proofs.Common.{◌≡◌, ℕ, ◌<◌, Bool, true, false, cond, Some, None, List, [], refl, sym, subst, length, arith, All, ◌+◌, ◌-◌, ◌*◌, ◌≤◌, slice_index, replicate, ◌∷◌, ◌++◌, ap, ◌∙◌}
+use Rattle.std.proofs.Common.{◌≡◌, ℕ, ◌<◌, Bool, true, false, cond, Some, None, List, [], refl, sym, length, arith, All, ◌+◌, slice_index}
 use Rattle.std.proofs.lemmas.Int.{ints}
-use Rattle.tube_spec.specs.Span.{Span, IsProper, IsBounded, point}
+use Rattle.tube_spec.specs.Span.{Span}
 use Rattle.tube_spec.specs.Grid.{IsGrid}
 use Rattle.tube_spec.specs.Shape.{Shape, IsShape, no_shape}
 use Rattle.tube_spec.specs.Tick.{tick_place, tick_cell}
 use Rattle.slice_gates.proofs.Places.{tick_place-lt}
-use Rattle.tube_store.specs.State.{State, IsStore}
+use Rattle.tube_store.specs.State.{IsStore}
 use Rattle.tube_store.specs.Kept.{IsKept}
 use Rattle.tube_store.proofs.Ring.{ring-among, no-ring}
 

@@ -2,3 +2,4 @@ pub mod Ring
 pub mod Kept
 pub mod Cells
 pub mod Adding
+pub mod OverTicks

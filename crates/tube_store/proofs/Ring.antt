@@ -1,7 +1,7 @@
 -- The touched cells and the marks beside them.
-use Rattle.std.proofs.Common.{◌≡◌, ℕ, ◌+◌, ◌<◌, ◌≤◌, ◌⊎◌, inl, inr, Bool, true, false, not, cond, nat_eq, ◌||◌, List, [], ◌∷◌, ◌++◌, arith, refl, sym, ap, ap₂, subst, ◌∙◌, length, length-append, get_or, set, count_by, All}
+use Rattle.std.proofs.Common.{◌≡◌, ℕ, ◌+◌, ◌<◌, ◌⊎◌, inl, inr, Bool, true, false, not, cond, nat_eq, ◌||◌, List, [], ◌∷◌, ◌++◌, arith, refl, sym, ap, subst, ◌∙◌, length, length-append, get_or, set, count_by, All}
 use Rattle.std.specs.Cmp.{nat_eq_equiv}
-use Rattle.std.specs.List.{list_any, IsDistinct, AllByRecursion}
+use Rattle.std.specs.List.{IsDistinct, AllByRecursion}
 use Rattle.std.proofs.lemmas.Bool.{cases_lt, cases_eq, ne_eqb}
 use Rattle.std.proofs.lemmas.List.{get_or-set_same, get_or-set_other, get_or_past, get_or_at}
 use Rattle.std.proofs.lemmas.List.Folds.{list_any_at, list_any-append}
@@ -79,3 +79,7 @@ ring-pop marks cells capacity c ring =
     agree : (k : ℕ) → c < length marks → ((k ≡ c) × (nat_eq k c ≡ true)) ⊎ ((k ≡ c → ⊥) × (nat_eq k c ≡ false)) → get_or (set marks c false) k false ≡ stands_in cells k
     agree k l (inl h) = subst (λ (j : ℕ). get_or (set marks c false) j false ≡ stands_in cells j) (sym h.0) (get_or-set_same marks c false false l ∙ sym (alone cells (IsDistinct-head nat_eq c cells ring.distinct)))
     agree k l (inr h) = get_or-set_other marks c k false false h.0 ∙ ring.agrees k ∙ ap (λ (b : Bool). b || stands_in cells k) h.1
+
+-- the first touched cell is among the cells
+pub ring-first : (marks : List Bool) (all : List ℕ) (capacity c : ℕ) (rest : List ℕ) → AreTouched marks all capacity → all ≡ c ∷ rest → c < length marks
+ring-first marks all capacity c rest ring e = ring-among marks (c ∷ rest) capacity (subst (λ (l : List ℕ). AreTouched marks l capacity) e ring) 0 0 (omega arith)

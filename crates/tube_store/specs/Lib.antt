@@ -2,3 +2,4 @@ pub mod Touched
 pub mod State
 pub mod Kept
 pub mod Cuts
+pub mod Places

@@ -5,18 +5,19 @@
 //! Intervals are in millimetres, or in whatever unit the signal or variable has.
 #![tactic(auto)]
 
-ghost use Rattle.std.specs.Prelude.{◌≡◌, ◌+◌, ◌*◌, ◌<◌, ◌≤◌, ◌^◌, ◌++◌, [], ◌∷◌, ◌↔◌, IsTrue, IsSome, IfSome, IsNone, OnOk, OnErr, IfOk, IsErrOf, None, Some, length, set, slice_index, sum_by, replicate, false, ◌-◌};
+ghost use Rattle.std.specs.Prelude.{◌≡◌, ◌≢◌, ℕ, ◌+◌, ◌*◌, ◌<◌, ◌≤◌, ◌^◌, ◌++◌, [], ◌∷◌, ◌↔◌, IsTrue, IsFalse, MatchOption, IsSome, IfSome, IsNone, OnOk, OnErr, IfOk, IsErrOf, None, Some, length, set, slice_index, sum_by, replicate, false, ◌-◌};
 ghost use Rattle.std.specs.Vec.{vec_capacity};
 ghost use Rattle.std.specs.VecDeque.{deque_capacity};
 ghost use Rattle.tube_spec.specs.Span.{IsProper, IsWithin, IsBounded, meet_of, width_of};
 ghost use Rattle.tube_spec.specs.Grid.{last_tick};
 ghost use Rattle.tube_spec.specs.Shape.{gate_cell, envelope_cell, slice_width};
 ghost use Rattle.tube_spec.specs.Box.{cell_at, IsBox, measure_of};
-ghost use Rattle.tube_spec.specs.Tick.{at_tick, over_ticks};
+ghost use Rattle.tube_spec.specs.Tick.{at_tick, over_ticks, join_over, tick_place};
 ghost use Rattle.tube_spec.specs.Owner.{SignalIn, VariableIn};
 ghost use Rattle.slice_gates.specs.Ticks.{IsSliceOf, IsGateOf};
 ghost use Rattle.tube_store.specs.State.{State, IsStore, no_cells, state_with, touch};
 ghost use Rattle.tube_store.specs.Cuts.{MatchCut, Cuts};
+ghost use Rattle.tube_store.specs.Places.{MeetsTick};
 ghost use Rattle.tube_store.specs.Touched.{AreTouched};
 ghost use Rattle.tube_store.specs.declared.StoreFault.TheVariants.{NoMemory};
 
@@ -286,6 +287,32 @@ impl Store {
         self.get(CellId(first + self.grid.place_of(tick)))
     }
 
+    /// The hull of what a signal may be at the ticks from `first` to `last`, both included.
+    pub fn over_ticks(&self, signal: SignalId, first: u32, last: u32) -> Interval
+        requires signal { signal.0 < length self.now.shape.signals }
+        requires order { first ≤ last }
+        requires tick { last ≤ last_tick self.now.shape.grid }
+        requires filled { IsSome self.now.box }
+        ensures value { IfSome self.now.box (λ xs. result ≡ over_ticks self.now.shape xs signal.0 first last) }
+        ensures proper { IsProper result }
+        ensures bounded { IsBounded 500000000 result }
+    {
+        let base = self.firsts[signal.0 as usize];
+        let hull = hull_between(&self.cells, &self.grid, base, first, last);
+        hull.known();
+        hull
+    }
+
+    /// Takes the cell that was touched first out of the list of touched cells. It takes no memory.
+    pub fn next_touched(&mut self) -> Option<CellId>
+        ensures taken { MatchOption result ((self.old.touched ≡ []) × (self.new ≡ self.old)) (λ c. (self.old.touched ≡ c.0 ∷ self.new.touched) × (self.new ≡ record self.old { touched = self.new.touched })) }
+        ensures named { IfSome result (λ c. c.0 < self.old.shape.cells) }
+    {
+        let cell = self.ring.pop_front()?;
+        self.marks[cell as usize] = false;
+        Some(CellId(cell))
+    }
+
     /// The widths of all cells, added up, and 0 for the empty box.
     pub fn measure(&self) -> u128
         ensures { result ≡ measure_of self.now.box }
@@ -361,6 +388,39 @@ fn touch(marks: &mut Vec<bool>, ring: &mut VecDeque<u32>, c: u32)
     }
 }
 
+/// Whether some tick is at a place: at each gate one is, and at the envelope of a slice of two ticks
+/// or more.
+fn meets_tick(grid: &Grid, place: u32) -> bool
+    requires { place + 1 < 2 * length grid.now }
+    ensures yes { IsTrue result → MeetsTick grid.now place }
+    ensures no { IsFalse result → (k : ℕ) → k ≤ last_tick grid.now → tick_place grid.now k ≢ place }
+{
+    grid.known();
+    let slice = place / 2;
+    place % 2 == 0 || grid.boundary(slice + 1) - grid.boundary(slice) > 1
+}
+
+/// The hull of a signal's cells at the ticks from `first` to `last`, where its first cell is `base`.
+/// It goes from cell to cell, past the envelopes that no tick is at.
+fn hull_between(cells: &[Interval], grid: &Grid, base: u32, first: u32, last: u32) -> Interval
+    requires few { length cells.now ≤ 2000000 }
+    requires among { base + 2 * length grid.now ≤ length cells.now + 1 }
+    requires order { first ≤ last }
+    requires tick { last ≤ last_tick grid.now }
+    ensures { result ≡ join_over (λ k. cell_at cells.now (base + tick_place grid.now k)) first (last - first) }
+{
+    grid.known();
+    let start = grid.place_of(first);
+    let end = grid.place_of(last);
+    let mut hull = cells[(base + start) as usize];
+    for place in start + 1..end + 1 {
+        if meets_tick(grid, place) {
+            hull = hull.hull(cells[(base + place) as usize]);
+        }
+    }
+    hull
+}
+
 /// The widths of the intervals, added up.
 fn total_width(cells: &[Interval]) -> u128
     requires { length cells.now ≤ 2000000 }
@@ -371,4 +431,103 @@ fn total_width(cells: &[Interval]) -> u128
         total += cell.width() as u128;
     }
     total
+}
+
+#[cfg(test)]
+mod tests {
+    use super::*;
+    use std::process::Abort;
+    use std::test::Fail;
+
+    fn interval(rt: &impl Abort, lo: i64, hi: i64) -> Interval {
+        Interval::new(lo, hi).expect(rt, "an interval")
+    }
+
+    /// A store of one signal in -100..100 and one variable in 0..9.
+    fn store_over(rt: &impl Abort, alloc: Global, cuts: &[u32]) -> Result<Store, Fail> {
+        let mut store = Store::new(alloc, Grid::from_cuts(alloc, cuts)?);
+        let signal = interval(rt, -100, 100);
+        assert!(rt; signal.lo() == -100 && signal.hi() == 100);
+        assert_eq!(rt; store.add_signal(signal)?, SignalId(0));
+        let var = interval(rt, 0, 9);
+        assert!(rt; var.lo() == 0 && var.hi() == 9);
+        assert_eq!(rt; store.add_var(var)?, VarId(0));
+        Ok(store)
+    }
+
+    fn narrow(rt: &impl Abort, store: &mut Store, cell: u32, lo: i64, hi: i64) -> Cut {
+        assert!(rt; cell < store.cells() && !store.is_empty());
+        store.narrow(CellId(cell), interval(rt, lo, hi))
+    }
+
+    fn get(rt: &impl Abort, store: &Store, cell: u32) -> (i64, i64) {
+        assert!(rt; cell < store.cells() && !store.is_empty());
+        let held = store.get(CellId(cell));
+        (held.lo(), held.hi())
+    }
+
+    fn over(rt: &impl Abort, store: &Store, first: u32, last: u32) -> (i64, i64) {
+        assert!(rt; store.signals() > 0 && first <= last && last <= store.grid().ticks());
+        assert!(rt; !store.is_empty());
+        let hull = store.over_ticks(SignalId(0), first, last);
+        if first == last {
+            assert_eq!(rt; store.at_tick(SignalId(0), first), hull);
+        }
+        (hull.lo(), hull.hi())
+    }
+
+    #[test]
+    fn cells_narrow_and_are_touched_once(rt: HostRuntime) -> Result<(), Fail> {
+        let mut store = store_over(&rt, rt.alloc(), &[0, 5, 8])?;
+        assert_eq!(rt;
+            (store.cells(), store.signals(), store.vars(), store.slices()),
+            (6, 1, 1, 2)
+        );
+        assert_eq!(rt; store.measure(), 5 * 200 + 9);
+        assert_eq!(rt; narrow(&rt, &mut store, 5, 3, 20), Cut::Narrowed);
+        assert_eq!(rt; get(&rt, &store, 5), (3, 9));
+        assert_eq!(rt; narrow(&rt, &mut store, 2, -7, 7), Cut::Narrowed);
+        assert_eq!(rt; narrow(&rt, &mut store, 5, 4, 5), Cut::Narrowed);
+        assert_eq!(rt; narrow(&rt, &mut store, 5, 4, 5), Cut::Same);
+        assert_eq!(rt; store.measure(), 4 * 200 + 14 + 1);
+        assert_eq!(rt; store.next_touched(), Some(CellId(5)));
+        assert_eq!(rt; store.next_touched(), Some(CellId(2)));
+        assert_eq!(rt; store.next_touched(), None);
+        assert_eq!(rt; narrow(&rt, &mut store, 5, 6, 7), Cut::Empty);
+        assert_eq!(rt; (store.is_empty(), store.measure()), (true, 0));
+        Ok(())
+    }
+
+    #[test]
+    fn ticks_read_gates_and_envelopes(rt: HostRuntime) -> Result<(), Fail> {
+        let mut store = store_over(&rt, rt.alloc(), &[0, 5, 6, 8])?;
+        for (cell, lo, hi) in [
+            (0, 1, 2),
+            (1, -4, 9),
+            (2, 5, 5),
+            (3, -50, 50),
+            (4, 6, 6),
+            (5, 3, 8),
+            (6, 7, 12),
+        ] {
+            assert_eq!(rt; narrow(&rt, &mut store, cell, lo, hi), Cut::Narrowed);
+        }
+        for (first, last, hull) in [
+            (0, 0, (1, 2)),
+            (4, 4, (-4, 9)),
+            (5, 5, (5, 5)),
+            (6, 6, (6, 6)),
+            (5, 6, (5, 6)),
+            (5, 7, (3, 8)),
+            (4, 6, (-4, 9)),
+            (6, 8, (3, 12)),
+        ] {
+            assert_eq!(rt;
+                over(&rt, &store, first, last),
+                hull,
+                "from {first} to {last}"
+            );
+        }
+        Ok(())
+    }
 }

@@ -1,5 +1,4 @@
-use Rattle.std.proofs.Common.{rules, arith, ap₂, sym, subst}
-use Rattle.tube_store.specs.Touched.{AreTouched}
+use Rattle.std.proofs.Common.{rules}
 use Rattle.tube_store.proofs.Ring.{ring-push}
 use Rattle.tube_store.proofs.touch.Goals as goal
 

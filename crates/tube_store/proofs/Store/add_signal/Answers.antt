@@ -2,7 +2,6 @@ use Rattle.std.proofs.Common.{◌≡◌, ℕ, ◌+◌, ◌-◌, ◌*◌, ◌≤�
 use Rattle.std.specs.VecDeque.{deque_capacity}
 use Rattle.tube_spec.specs.Shape.{Shape, IsShape}
 use Rattle.tube_spec.proofs.Prefixes.{IsShape-signal}
-use Rattle.tube_store.specs.Kept.{IsKept}
 use Rattle.tube_store.proofs.Adding.{kept-longer, length-more}
 use Rattle.tube_store.proofs.Store.add_signal.Goals as goal
 

@@ -1,8 +1,7 @@
-use Rattle.std.proofs.Common.{◌≡◌, ℕ, ◌+◌, ◌-◌, ◌*◌, ◌≤◌, List, [], ◌∷◌, ◌++◌, arith, sym, ap, subst, ◌∙◌, length, replicate, false}
+use Rattle.std.proofs.Common.{◌≡◌, ℕ, ◌+◌, ◌-◌, ◌≤◌, List, [], ◌∷◌, ◌++◌, arith, sym, ap, subst, ◌∙◌, length, replicate, false}
 use Rattle.std.specs.VecDeque.{deque_capacity}
 use Rattle.tube_spec.specs.Shape.{Shape, IsShape}
 use Rattle.tube_spec.proofs.Prefixes.{IsShape-var}
-use Rattle.tube_store.specs.Kept.{IsKept}
 use Rattle.tube_store.proofs.Adding.{kept-longer, length-more}
 use Rattle.tube_store.proofs.Store.add_var.Goals as goal
 

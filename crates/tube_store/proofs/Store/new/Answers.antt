@@ -1,4 +1,3 @@
-use Rattle.std.proofs.Common.{rules, refl}
 use Rattle.tube_store.proofs.Kept.{no-cells-kept}
 use Rattle.tube_store.proofs.Store.new.Goals as goal
 
