@@ -36,6 +36,7 @@ tick_place-in_slice grid tick i is last none slice =
   where
     strictly : (a b : ℕ) → a ≤ b → (a ≡ b → ⊥) → a < b
     strictly a b h n = grind arith
+
     before : (tick < slice_index grid (i + 1)) ⊎ (slice_index grid (i + 1) ≤ tick) → tick < slice_index grid (i + 1)
     before (inl h) = h
     before (inr h) = elim (cases_lt ((i + 1) + 1) (length grid)) [

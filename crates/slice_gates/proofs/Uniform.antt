@@ -1,11 +1,11 @@
 -- The cuts of slices of one width are a grid.
-use Rattle.std.proofs.Common.{◌≡◌, ℕ, zero, suc, ◌+◌, ◌-◌, ◌*◌, ◌/◌, ◌%◌, ◌<◌, ◌≤◌, inl, inr, ◌⊎◌, List, [], ◌∷◌, ◌++◌, min, arith, refl, sym, ap, subst, ◌∙◌, length, length-append, slice_index, get_or}
+use Rattle.std.proofs.Common.{◌≡◌, ℕ, zero, suc, ◌+◌, ◌-◌, ◌*◌, ◌<◌, ◌≤◌, inl, inr, ◌⊎◌, [], ◌∷◌, arith, refl, sym, ap, subst, ◌∙◌, length, length-append, slice_index}
 use Rattle.std.proofs.Math.ListN.{get_or-append}
 use Rattle.std.proofs.Math.Nat.{mul-le-mul_left}
 use Rattle.std.proofs.lemmas.List.{get_or_push}
 use Rattle.std.proofs.lemmas.Grind.{div_ceil_times}
 use Rattle.std.specs.Int.{div_ceil}
-use Rattle.tube_spec.specs.Grid.{IsGrid, last_tick}
+use Rattle.tube_spec.specs.Grid.{IsGrid}
 use Rattle.slice_gates.specs.Cuts.{multiples, uniform_cuts}
 use Rattle.slice_gates.proofs.Boundaries.{IsGrid-from_cuts}
 

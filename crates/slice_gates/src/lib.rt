@@ -1,7 +1,7 @@
 //! The grid of slices: the boundary ticks of a tube's slices, and where a tick stands among them.
 #![tactic(auto)]
 
-ghost use Rattle.std.specs.Prelude.{◌≡◌, ◌+◌, ◌<◌, ◌≤◌, ◌↔◌, IsTrue, IsErrOf, IfOk, IsOkUnless, IsFalse, length, slice_index};
+ghost use Rattle.std.specs.Prelude.{◌≡◌, ◌+◌, ◌*◌, ◌<◌, ◌≤◌, ◌↔◌, IsTrue, IsErrOf, IfOk, IsOkUnless, IsFalse, length, slice_index};
 ghost use Rattle.std.specs.List.Sorted.{IsStrictlyIncreasing};
 ghost use Rattle.tube_spec.specs.Grid.{IsGrid, last_tick};
 ghost use Rattle.tube_spec.specs.Tick.{tick_place};
@@ -142,7 +142,8 @@ impl Grid {
     /// on: the gate where the tick is a boundary, and the envelope of its slice otherwise.
     pub fn place_of(&self, tick: u32) -> u32
         requires { tick ≤ last_tick self.now }
-        ensures { result ≡ tick_place self.now tick }
+        ensures place { result ≡ tick_place self.now tick }
+        ensures among { result + 1 < 2 * length self.now }
     {
         self.known();
         match self.is_gate(tick) {

@@ -1,5 +1,4 @@
-use Rattle.std.proofs.Common.{rules, of_calls, ◌≡◌, ℕ, ◌+◌, ◌<◌, ◌≤◌, Bool, true, false, List, length, slice_index, nat_lt, arith}
-use Rattle.std.specs.List.{IsAllAdjacentAnswer}
+use Rattle.std.proofs.Common.{rules, of_calls, nat_lt}
 use Rattle.std.proofs.lemmas.Fn.{always_returns_same}
 use Rattle.slice_gates.proofs.Boundaries.{rising-answer, fall-answer}
 use Rattle.slice_gates.proofs.is_rising.Goals as goal

@@ -1,4 +1,4 @@
-use Rattle.std.proofs.Common.{rules, arith, ◌≡◌, ◌-◌, sym, ap, ap₂, subst, leb, take, length, List, ℕ, ◌∙◌}
+use Rattle.std.proofs.Common.{rules, arith, ◌≡◌, ◌-◌, ap₂, subst, leb, take, length, List, ℕ}
 use Rattle.std.proofs.lemmas.List.Sorted.{IsPartitionPoint-from_clause, IsPartitionedBy-leb}
 use Rattle.slice_gates.specs.Ticks.{IsSliceOf}
 use Rattle.slice_gates.proofs.Boundaries.{slice-found, starts-rise}
