@@ -1,0 +1,32 @@
+ghost use Rattle.std.specs.Prelude.{ℕ, List};
+ghost use Rattle.tube_spec.specs.Projection.{Projection};
+ghost use Rattle.tube_spec.specs.Shape.{IsShape};
+ghost use Rattle.tube_store.specs.State.{State};
+ghost use Rattle.ctc_core.specs.declared.Revised.{Revised};
+ghost use Rattle.ctc_core.specs.Answers.{Revises};
+ghost use Rattle.ctc_network.specs.Schedule.{Event, IsFiring, no_network, after_all, IsSchedule, KeepsDeclared, IsGreatestAtRest};
+ghost use Rattle.ctc_network.specs.Sections.{SectionKeeps, SectionGreatest};
+
+use ctc_core::Contractor;
+
+/// What holds of every order of additions and firings, from no cell on.
+///
+/// A firing takes the box to any box that the laws of a contractor allow, as each call of `Net::fire` does. Every common fixpoint of the contractors that were added,
+/// below the declared ranges of all cells, lies below the last box; and where no contractor narrows the last box, it is the greatest
+/// one, whatever the order was. This is the chaotic iteration of Apt, The Essence of Constraint Propagation (1999), with additions
+/// between; that the greatest fixpoint exists is the theorem of Knaster and Tarski.
+pub fn schedule_law<C: Contractor>()
+    ensures firing { (ps : List Projection) (old new : State) (answer : Revised) → Revises ps old new answer → IsFiring ps old.box new.box }
+    ensures keeps { (grid : List ℕ) (es : List (Event C)) → IsShape (no_network {C = C} grid).shape
+        → IsSchedule C.projections C.fits (no_network grid) es → KeepsDeclared C.projections (after_all (no_network grid) es) }
+    ensures greatest { (grid : List ℕ) (es : List (Event C)) → IsShape (no_network {C = C} grid).shape
+        → IsSchedule C.projections C.fits (no_network grid) es → IsGreatestAtRest C.projections (after_all (no_network grid) es) }
+{}
+
+/// Going on after additions equals a fresh run: the greatest common fixpoint of all contractors, below that of the first ones with the
+/// new cells at their declared ranges, is the greatest one below the declared ranges of all cells. The same for boxes that are not
+/// greatest but lost no common fixpoint.
+pub fn section_law<C: Contractor>()
+    ensures keeps { SectionKeeps C.projections C.fits }
+    ensures greatest { SectionGreatest C.projections C.fits }
+{}
