@@ -1,9 +1,8 @@
 -- Command lines, and what they ask for.
-use Rattle.std.specs.Prelude.{◌≡◌, ℕ, List, [], ◌∷◌, Some, None, Option, codes, false, true}
+use Rattle.std.specs.Prelude.{◌≡◌, ℕ, List, Some, None, Option, false}
 use Rattle.cli_words.specs.Asked.{asked_of}
 use Rattle.cli_words.specs.declared.answer.Asked.{Asked}
 use Rattle.cli_words.specs.declared.answer.Mode.{Mode}
-use Rattle.cli_words.specs.declared.answer.Mode.TheVariants as mode
 use Rattle.cli_words.specs.declared.answer.OrderWord.TheVariants as order
 
 -- a mode with no option

@@ -1,9 +1,9 @@
-use Rattle.std.proofs.Common.{◌≡◌, ◌∙◌, List, ℕ, ap, sym, map, rules, subst}
+use Rattle.std.proofs.Common.{◌∙◌, ap, sym, map, subst}
 use Rattle.clap.specs.Faults.{fault_of, is_simple_and_free}
-use Rattle.clap.specs.Kinds.{HasKind, Kinds}
+use Rattle.clap.specs.Kinds.{HasKind}
 use Rattle.clap.specs.Matches.{found_of}
 use Rattle.clap.specs.Simple.{App, is_simple, matches_of}
-use Rattle.clap.specs.Walk.{Row, rows_of}
+use Rattle.clap.specs.Walk.{rows_of}
 use Rattle.cli_words.proofs.Refusals.{asked_refused, asked_taken, is_free, is_plain}
 use Rattle.cli_words.proofs.answer.read_texts.Goals as goal
 

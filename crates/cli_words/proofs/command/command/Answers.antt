@@ -1,6 +1,6 @@
-use Rattle.std.proofs.Common.{◌≡◌, ◌∙◌, ap₂}
-use Rattle.clap.specs.Simple.{app_of, with_rule}
-use Rattle.cli_words.specs.Rules.{bare_app, brief_rule, budget_rule, command_app, mode_rule, order_rule, seed_rule}
+use Rattle.std.proofs.Common.{◌∙◌, ap₂}
+use Rattle.clap.specs.Simple.{with_rule}
+use Rattle.cli_words.specs.Rules.{command_app}
 use Rattle.cli_words.proofs.command.command.Goals as goal
 
 pub returns : goal.returns
