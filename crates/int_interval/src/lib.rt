@@ -12,6 +12,8 @@ ghost use Rattle.tube_spec.specs.Span.{Span, IsProper, IsBounded, IsWithin, Hold
 ghost use Rattle.int_interval.specs.Image.{IsImage, IsImageOfTwo, IsMeeting, IsUnion, int_abs, neg_of, abs_of, min_of, max_of, mul_of, sqr_of};
 
 mod backward;
+#[cfg(test)]
+mod tests;
 
 use std::marker::Model;
 
