@@ -1,0 +1,5 @@
+pub mod Stable
+pub mod Enclosing
+pub mod Reading
+pub mod Building
+pub mod Sections

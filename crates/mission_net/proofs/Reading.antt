@@ -1,0 +1,149 @@
+-- Records and further records: shapes, starts, constraints, and how much room they take.
+use Rattle.std.proofs.Common.{◌≡◌, ℕ, zero, suc, ◌+◌, ◌-◌, ◌*◌, ◌<◌, ◌≤◌, List, [], ◌∷◌, ◌++◌, pos, arith, refl, sym, ap, subst, ◌∙◌, length, take, get_or, flat_map, length-append, append-nil, append_assoc, sum_by, map, ap₂}
+use Rattle.std.proofs.Math.Nat.{add-mul}
+use Rattle.std.proofs.Math.ListN.{length-replicate}
+use Rattle.std.proofs.lemmas.List.Concat.{flat_map-append}
+use Rattle.std.proofs.lemmas.List.Sums.{sum_by-append, sum_by-cons, sum_by_push}
+use Rattle.tube_spec.specs.Span.{point}
+use Rattle.tube_spec.specs.Shape.{Shape, IsShape, no_shape, with_signal, with_var}
+use Rattle.tube_spec.specs.Owner.{Owner, SignalIn, VariableIn, declared_cells, start_of, with_owner, with_owners}
+use Rattle.tube_spec.proofs.Prefixes.{IsShape-signal, IsShape-var}
+use Rattle.tube_spec.proofs.Hulls.{owners-extend, with_owners-append}
+use Rattle.mission_log.specs.declared.item.Item.{Item}
+use Rattle.mission_log.specs.declared.item.Item.TheVariants.{Head, Note, Signal, Variable, Deriv, Bound, At}
+use Rattle.mission_log.specs.Names.{signals_made, signals_in, variables_made, variables_in}
+use Rattle.mission_log.specs.Room.{cells_of, foot_of, feet_from, feet_of, slices_in}
+use Rattle.mission_log.specs.Valid.{IsRight, AreRightFrom}
+use Rattle.ctc_deriv.specs.Bounds.{each_below}
+use Rattle.mission_net.specs.Constraints.{Constraint, SliceOf, DerivOf, BoundOf, constraint_scope, reads_of}
+use Rattle.mission_net.specs.declared.AnyCtc.{AnyCtc}
+use Rattle.mission_net.specs.Contractors.{constraint_of, any_scope}
+use Rattle.ctc_network.specs.Nets.{entries_of}
+use Rattle.mission_net.specs.Records.{made, owners, shape_by, start, constraints_of, constraints_from, constraints}
+use Rattle.mission_net.proofs.Enclosing.{shape-snoc, shape-grid}
+
+pub start-append : (grid : List ℕ) (before rs : List Item) → start grid (before ++ rs) ≡ start grid before ++ start_of grid (owners rs)
+start-append grid before rs = ap (start_of grid) (flat_map-append made before rs) ∙ flat_map-append (declared_cells grid) (owners before) (owners rs)
+
+pub constraints-append : (grid : List ℕ) (xs ys before : List Item) → constraints_from grid before (xs ++ ys) ≡ constraints_from grid before xs ++ constraints_from grid (before ++ xs) ys
+constraints-append grid [] ys before = ap (λ (l : List Item). constraints_from grid l ys) (sym (append-nil before))
+constraints-append grid (r ∷ xs) ys before =
+    ap (λ (l : List Constraint). constraints_of (shape_by grid before) r ++ l) (constraints-append grid xs ys (before ++ r ∷ []) ∙ ap (λ (l : List Item). constraints_from grid (before ++ r ∷ []) xs ++ constraints_from grid l ys) (append_assoc before (r ∷ []) xs))
+    ∙ sym (append_assoc (constraints_of (shape_by grid before) r) (constraints_from grid (before ++ r ∷ []) xs) (constraints_from grid (before ++ r ∷ xs) ys))
+
+pub constraints-snoc : (grid : List ℕ) (before : List Item) (r : Item) → constraints grid (before ++ r ∷ []) ≡ constraints grid before ++ constraints_of (shape_by grid before) r
+constraints-snoc grid before r = constraints-append grid before (r ∷ []) [] ∙ ap (λ (l : List Constraint). constraints grid before ++ l) (append-nil (constraints_of (shape_by grid before) r))
+
+-- what a record says is right, by its place
+pub right-at : (end : ℕ) (xs before : List Item) (i : ℕ) (d : Item) → AreRightFrom end before xs → i < length xs → IsRight end (before ++ take i xs) (get_or xs i d)
+right-at end [] before i d right l = absurd (omega (arith, l))
+right-at end (r ∷ xs) before zero d right l = subst (λ (b : List Item). IsRight end b r) (sym (append-nil before)) right.0
+right-at end (r ∷ xs) before (suc i) d right l =
+    subst (λ (b : List Item). IsRight end b (get_or xs i d)) (append_assoc before (r ∷ []) (take i xs)) (right-at end xs (before ++ r ∷ []) i d right.1 (omega (arith, l)))
+
+-- the first records are right
+pub right-first : (end : ℕ) (xs ys before : List Item) → AreRightFrom end before (xs ++ ys) → AreRightFrom end before xs
+right-first end [] ys before right = tt
+right-first end (r ∷ xs) ys before right = (right.0, right-first end xs ys (before ++ r ∷ []) right.1)
+
+-- how many cells owners take
+cells-after : (os : List Owner) (s : Shape) → (with_owners s os).cells ≡ s.cells + length (flat_map (declared_cells s.grid) os)
+cells-after [] s = omega arith
+cells-after (SignalIn range ∷ os) s =
+    cells-after os (with_signal s) ∙ omega (arith, length-append (declared_cells s.grid (SignalIn range)) (flat_map (declared_cells s.grid) os), length-replicate (2 * length s.grid - 1) range)
+cells-after (VariableIn range ∷ os) s = cells-after os (with_var s) ∙ omega arith
+
+pub start-length : (grid : List ℕ) (items : List Item) → length (start grid items) ≡ (shape_by grid items).cells
+start-length grid items = sym (cells-after (owners items) (no_shape grid) ∙ omega arith)
+
+shape-more : (os : List Owner) (s : Shape) → IsShape s → (with_owners s os).cells ≤ 2000000 → IsShape (with_owners s os)
+shape-more [] s is few = is
+shape-more (SignalIn range ∷ os) s is few = shape-more os (with_signal s) (IsShape-signal s is (omega (arith, few, (owners-extend os (with_signal s)).cells))) few
+shape-more (VariableIn range ∷ os) s is few = shape-more os (with_var s) (IsShape-var s is (omega (arith, few, (owners-extend os (with_var s)).cells))) few
+
+pub shape-is : (grid : List ℕ) (items : List Item) → IsShape (no_shape grid) → (shape_by grid items).cells ≤ 2000000 → IsShape (shape_by grid items)
+shape-is grid items is few = shape-more (owners items) (no_shape grid) is few
+
+-- ---- the cells of the shape are those that the log counts
+
+-- the cells that one record takes
+cells-of_one : (r : Item) (s : Shape) → 1 ≤ length s.grid → (with_owners s (made r)).cells ≡ s.cells + (signals_made r * (2 * (length s.grid - 1) + 1) + variables_made r)
+cells-of_one Head s some = omega arith
+cells-of_one Note s some = omega arith
+cells-of_one (Signal name range) s some = omega (arith, some)
+cells-of_one (Variable name range) s some = omega arith
+cells-of_one (Deriv x rate) s some = omega arith
+cells-of_one (Bound x first last range) s some = omega arith
+cells-of_one (At x tick range) s some = omega arith
+
+cells-step : (a b m n k c x y : ℕ) → a ≡ c + (m * k + x) → b ≡ a + (n * k + y) → b ≡ c + ((m + n) * k + (x + y))
+cells-step a b m n k c x y p q = omega (arith, p, q, add-mul m n k)
+
+cells-from : (items : List Item) (s : Shape) → 1 ≤ length s.grid → (with_owners s (owners items)).cells ≡ s.cells + (signals_in items * (2 * (length s.grid - 1) + 1) + variables_in items)
+cells-from [] s some = omega arith
+cells-from (r ∷ items) s some =
+    let t = with_owners s (made r) in
+    let same : t.grid ≡ s.grid = (owners-extend (made r) s).grid in
+    let rest = subst (λ (g : List ℕ). (with_owners t (owners items)).cells ≡ t.cells + (signals_in items * (2 * (length g - 1) + 1) + variables_in items)) same (cells-from items t (omega (arith, some, ap length same))) in
+    ap (λ (u : Shape). u.cells) (with_owners-append (made r) (owners items) s)
+    ∙ cells-step t.cells (with_owners t (owners items)).cells (signals_made r) (signals_in items) (2 * (length s.grid - 1) + 1) s.cells (variables_made r) (variables_in items) (cells-of_one r s some) rest
+    ∙ ap₂ (λ (m n : ℕ). s.cells + (m * (2 * (length s.grid - 1) + 1) + n)) (sym (sum_by-cons signals_made r items)) (sym (sum_by-cons variables_made r items))
+
+pub cells-count : (grid : List ℕ) (items : List Item) → 1 ≤ length grid → (shape_by grid items).cells ≡ cells_of grid (signals_in items) (variables_in items)
+cells-count grid items some = cells-from items (no_shape grid) some ∙ omega arith
+
+-- ---- how many cells constraints read, and how many constraints there are
+
+pub each-reads : (f : ℕ → Constraint) (m : ℕ) → ((i : ℕ) → reads_of (f i) ≡ m) → (n : ℕ) → sum_by reads_of (each_below (λ i. f i ∷ []) n) ≡ m * n
+each-reads f m h zero = omega arith
+each-reads f m h (suc n) = sum_by_push reads_of (each_below (λ i. f i ∷ []) n) (f n) ∙ omega (arith, each-reads f m h n, h n)
+
+pub each-length : {X : Type 0} (f : ℕ → X) (n : ℕ) → length (each_below (λ i. f i ∷ []) n) ≡ n
+each-length f zero = refl
+each-length f (suc n) = length-append (each_below (λ i. f i ∷ []) n) (f n ∷ []) ∙ omega (arith, each-length f n)
+
+-- what a record's constraints read is within its foot, and there is at most one more of them
+pub record IsSmall (cs : List Constraint) (foot : ℕ) : Type 0 where
+  pub reads : sum_by reads_of cs ≤ foot
+  pub few : length cs ≤ foot + 1
+
+record-small : (grid : List ℕ) (before : List Item) (s : Shape) (r : Item) → s.grid ≡ grid → IsSmall (constraints_of s r) (foot_of grid before r)
+record-small grid before s Head same = record { reads = omega arith; few = omega arith }
+record-small grid before s Note same = record { reads = omega arith; few = omega arith }
+record-small grid before s (Signal name range) same =
+    let all = each-reads (λ i. SliceOf (length s.signals) i) 3 (λ i. refl) (length s.grid - 1) in
+    let count = each-length (λ i. SliceOf (length s.signals) i) (length s.grid - 1) in
+    let e = ap length same in record { reads = omega (arith, all, e); few = omega (arith, count, e) }
+record-small grid before s (Variable name range) same = record { reads = omega arith; few = omega arith }
+record-small grid before s (Deriv x rate) same =
+    let all = each-reads (λ i. DerivOf x.0 rate.0 i) 4 (λ i. refl) (length s.grid - 1) in
+    let count = each-length (λ i. DerivOf x.0 rate.0 i) (length s.grid - 1) in
+    let e = ap length same in record { reads = omega (arith, all, e); few = omega (arith, count, e) }
+record-small grid before s (Bound x first last range) same = record { reads = omega arith; few = omega arith }
+record-small grid before s (At x tick range) same = record { reads = omega arith; few = omega arith }
+
+-- the same of any number of records
+pub records-reads : (grid : List ℕ) (rs before : List Item) → sum_by reads_of (constraints_from grid before rs) ≤ feet_from grid before rs
+records-reads grid [] before = omega arith
+records-reads grid (r ∷ rs) before =
+    let one = record-small grid before (shape_by grid before) r (shape-grid grid before) in
+    let rest = records-reads grid rs (before ++ r ∷ []) in
+    omega (arith, one.reads, rest, sum_by-append reads_of (constraints_of (shape_by grid before) r) (constraints_from grid (before ++ r ∷ []) rs))
+
+pub records-count : (grid : List ℕ) (rs before : List Item) → length (constraints_from grid before rs) ≤ feet_from grid before rs + length rs
+records-count grid [] before = omega arith
+records-count grid (r ∷ rs) before =
+    let one = record-small grid before (shape_by grid before) r (shape-grid grid before) in
+    let rest = records-count grid rs (before ++ r ∷ []) in
+    omega (arith, one.few, rest, length-append (constraints_of (shape_by grid before) r) (constraints_from grid (before ++ r ∷ []) rs))
+
+-- what a net's contractors read, by their constraints
+pub net-reads : (s : Shape) (cs : List AnyCtc) → entries_of any_scope s cs ≡ sum_by reads_of (map constraint_of cs)
+net-reads s [] = refl
+net-reads s (c ∷ cs) =
+    sum_by-cons (λ (x : AnyCtc). length (any_scope x s)) c cs ∙ ap₂ (λ (m n : ℕ). m + n) (scope-length s (constraint_of c)) (net-reads s cs) ∙ sym (sum_by-cons reads_of (constraint_of c) (map constraint_of cs))
+  where
+    scope-length : (s : Shape) (c : Constraint) → length (constraint_scope s c) ≡ reads_of c
+    scope-length s (SliceOf signal i) = refl
+    scope-length s (DerivOf x rate i) = refl
+    scope-length s (BoundOf x first last range) = refl

@@ -1,0 +1,5 @@
+pub mod Constraints
+pub mod ConstraintLaws
+pub mod Contractors
+pub mod Records
+pub mod Building

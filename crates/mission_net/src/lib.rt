@@ -1,0 +1,101 @@
+//! What the records of a mission mean for the network: the cells and contractors that each makes, in order, and what the settled
+//! box then is: the greatest common fixpoint of the records so far, which encloses every trajectory that is consistent with them.
+#![tactic(auto)]
+
+mod records;
+mod section;
+
+use ctc_core::{Contractor, Revised};
+use ctc_deriv::{BoundCtc, DerivCtc, SliceCtc};
+pub use records::build;
+pub use section::{SectionEnd, next_section};
+use std::sync::ledger::Ledger;
+use step_count::Steps;
+use tube_store::{CellId, Store};
+
+/// A contractor of one of the kinds that records make. Each call is passed on to the contractor within.
+#[derive(Clone, Copy, Debug, PartialEq, Eq)]
+pub enum AnyCtc {
+    /// A slice of a signal.
+    Slice(SliceCtc),
+    /// A signal and its rate over a slice.
+    Deriv(DerivCtc),
+    /// A measured range of a signal over ticks.
+    Bound(BoundCtc),
+}
+
+impl Contractor for AnyCtc {
+    ghost use Rattle.mission_net.specs.Constraints.{IsOf};
+    ghost use Rattle.mission_net.specs.Contractors.{constraint_of, any_projections, any_scope};
+    ghost use Rattle.mission_net.specs.ConstraintLaws.{constraint-monotone, constraint-reads_only, constraint-in_store, constraint-more, constraint-same_projections, constraint-same_scope};
+
+    ghost projections = { any_projections };
+
+    ghost scope = { any_scope };
+
+    ghost fits = { λ c s b. IsOf s (constraint_of c) };
+
+    ghost monotone = { λ c s. constraint-monotone (λ xs. IsOf s (constraint_of c)) (constraint_of c) s };
+
+    ghost reads_only = { λ c s. constraint-reads_only (λ xs. IsOf s (constraint_of c)) (constraint_of c) s };
+
+    ghost fits_local = { λ c s xs ys same fits. fits };
+
+    ghost fits_below = { λ c s a b low fits. fits };
+
+    ghost in_store = { λ c s b shape fits. constraint-in_store (constraint_of c) s shape fits };
+
+    ghost fits_more = { λ c s t b more grows fits. constraint-more (constraint_of c) s t grows fits };
+
+    ghost same_projections = { λ c s t b grows fits. constraint-same_projections (constraint_of c) s t grows fits };
+
+    ghost same_scope = { λ c s t b grows fits. constraint-same_scope (constraint_of c) s t grows fits };
+
+    fn reads(&self, store: &Store) -> u32 {
+        match self {
+            AnyCtc::Slice(c) => c.reads(store),
+            AnyCtc::Deriv(c) => c.reads(store),
+            AnyCtc::Bound(c) => c.reads(store),
+        }
+    }
+
+    fn read(&self, store: &Store, i: u32) -> CellId {
+        match self {
+            AnyCtc::Slice(c) => c.read(store, i),
+            AnyCtc::Deriv(c) => c.read(store, i),
+            AnyCtc::Bound(c) => c.read(store, i),
+        }
+    }
+
+    fn writes(&self, store: &Store) -> u32 {
+        match self {
+            AnyCtc::Slice(c) => c.writes(store),
+            AnyCtc::Deriv(c) => c.writes(store),
+            AnyCtc::Bound(c) => c.writes(store),
+        }
+    }
+
+    fn written(&self, store: &Store, i: u32) -> CellId {
+        match self {
+            AnyCtc::Slice(c) => c.written(store, i),
+            AnyCtc::Deriv(c) => c.written(store, i),
+            AnyCtc::Bound(c) => c.written(store, i),
+        }
+    }
+
+    fn revise<L: Ledger>(&self, store: &mut Store, steps: &mut Steps<L>) -> Revised {
+        match self {
+            AnyCtc::Slice(c) => c.revise(store, steps),
+            AnyCtc::Deriv(c) => c.revise(store, steps),
+            AnyCtc::Bound(c) => c.revise(store, steps),
+        }
+    }
+
+    fn still<L: Ledger>(&self, store: &Store, steps: &mut Steps<L>) -> bool {
+        match self {
+            AnyCtc::Slice(c) => c.still(store, steps),
+            AnyCtc::Deriv(c) => c.still(store, steps),
+            AnyCtc::Bound(c) => c.still(store, steps),
+        }
+    }
+}

@@ -1,0 +1,62 @@
+ghost use Rattle.std.specs.Prelude.{◌≡◌, ◌+◌, ◌≤◌, ℕ, List, IfOk, OnOk, IsFalse, All, length, take, drop};
+ghost use Rattle.tube_spec.specs.Box.{box_more, measure_of};
+ghost use Rattle.tube_spec.specs.Owner.{start_of};
+ghost use Rattle.mission_log.specs.Valid.{IsMission};
+ghost use Rattle.mission_net.specs.Records.{owners, IsEnclosure, Encloses};
+ghost use Rattle.mission_net.specs.Building.{IsNetOf, IsSectionAs, IsSpentAs};
+
+use crate::AnyCtc;
+use crate::records::build;
+use ctc_network::{Net, Order, Settled};
+use mission_log::Mission;
+use std::sync::ledger::Ledger;
+use step_count::Steps;
+use tube_io::NoMemory;
+
+/// How the settling of a section ended.
+#[derive(Clone, Copy, Debug, PartialEq, Eq)]
+pub struct SectionEnd {
+    /// The answer of settling.
+    pub answer: Settled,
+    /// The measure of the box before it was settled: the sum of the widths of its cells.
+    pub began: u128,
+}
+
+/// Builds the records of a section, those from item `first` on and below item `last`, onto the net, and settles it from the box that
+/// it has, with the new cells at their declared ranges.
+///
+/// Going on so equals starting afresh: where the box before lost no common fixpoint of the records before, the box is that of the
+/// section of all records so far, whatever the order. After want of memory the net is not built on.
+pub fn next_section<L: Ledger>(
+    mission: &Mission,
+    first: usize,
+    last: usize,
+    net: &mut Net<AnyCtc>,
+    order: Order,
+    budget: u64,
+    steps: &mut Steps<L>,
+) -> Result<SectionEnd, NoMemory>
+    requires order { first ≤ last }
+    requires within { last ≤ length mission.now.items }
+    requires mission { IsMission mission.now }
+    requires holds { IsNetOf mission.now.cuts (take first mission.now.items) net.old }
+    requires before { IsEnclosure mission.now.cuts (take first mission.now.items) net.old.store.box }
+
+    // The net is that of the records so far.
+    ensures holds { OnOk result (IsNetOf mission.now.cuts (take last mission.now.items) net.new) }
+
+    // Its box is the greatest common fixpoint of their projections below the declared ranges, or empty exactly where there is none, or
+    // it was spent and lost no common fixpoint. It encloses every assignment that satisfies them.
+    ensures section { IfOk result (λ end. IsSectionAs mission.now.cuts (take last mission.now.items) net.new.store.box end.answer) }
+    ensures encloses { OnOk result (Encloses mission.now.cuts (take last mission.now.items) net.new.store.box) }
+
+    // Nobody waits at a fixpoint, and the budget is spent only with its cause.
+    ensures resting { IfOk result (λ end. end.answer ≡ Settled.Fixpoint → All IsFalse net.new.waiting) }
+    ensures began { IfOk result (λ end. end.began ≡ measure_of (box_more net.old.store.box (start_of mission.now.cuts (owners (drop first (take last mission.now.items)))))) }
+    ensures spent { IfOk result (λ end. IsSpentAs mission.now.cuts (take last mission.now.items) net.new.store.box end.began budget end.answer) }
+{
+    build(mission, first, last, net)?;
+    let began = net.store().measure();
+    let answer = net.settle(order, budget, steps);
+    Ok(SectionEnd { answer, began })
+}
