@@ -1,6 +1,6 @@
 -- Counting the readers of cells.
-use Rattle.std.proofs.Common.{◌≡◌, cond, ℕ, zero, suc, ◌+◌, ◌<◌, ◌≤◌, ◌||◌, List, [], ◌∷◌, ◌++◌, Bool, true, false, nat_eq, refl, sym, subst, ap, ◌∙◌, length, take, set, get_or, replicate, arith, slice_index}
-use Rattle.std.proofs.lemmas.List.{take_all, get_or-append_right, get_or_append_left, get_or-replicate, get_or_past, length-replicate, get_or-set_same, get_or-set_other}
+use Rattle.std.proofs.Common.{◌≡◌, cond, ℕ, ◌+◌, ◌<◌, ◌≤◌, ◌||◌, List, Bool, true, false, nat_eq, refl, sym, subst, ap, ◌∙◌, length, take, set, arith, slice_index}
+use Rattle.std.proofs.lemmas.List.{get_or-set_same, get_or-set_other}
 use Rattle.std.proofs.lemmas.List.Folds.{list_any_more}
 use Rattle.ctc_network.specs.Nets.{reads_cell}
 

@@ -1,5 +1,5 @@
 -- The invariant of a net: what additions and firings keep.
-use Rattle.std.proofs.Common.{◌≡◌, cond, ℕ, zero, suc, ◌+◌, ◌<◌, ◌≤◌, ◌⊎◌, inl, inr, Option, Some, None, List, [], ◌∷◌, ◌++◌, Bool, true, false, IsNone, IfSome, refl, sym, subst, ap, ap₂, ◌∙◌, length, set, replicate, get_or, All, Contains, arith, slice_get, slice_index, sum_by, count_by, pos}
+use Rattle.std.proofs.Common.{◌≡◌, cond, ℕ, zero, suc, ◌+◌, ◌<◌, ◌≤◌, ◌⊎◌, inl, inr, Option, Some, None, List, [], ◌∷◌, ◌++◌, Bool, true, false, IsNone, IfSome, refl, sym, subst, ap, ap₂, ◌∙◌, length, set, replicate, get_or, All, Contains, arith, slice_get, slice_index, sum_by, pos}
 use Rattle.std.proofs.lemmas.List.{length-set, length-replicate, length_push, get_or_append_left}
 use Rattle.std.proofs.lemmas.List.Elements.{All-push, All-head, All-tail}
 use Rattle.std.proofs.lemmas.List.Sums.{sum_by-cons, sum_by_push}
@@ -15,7 +15,7 @@ use Rattle.tube_store.specs.State.{State, IsStore, state_with}
 use Rattle.ctc_core.specs.Answers.{Revises}
 use Rattle.ctc_core.specs.declared.Revised.{Revised}
 use Rattle.ctc_core.specs.declared.Revised.TheVariants.{Same, Narrowed, Empty}
-use Rattle.ctc_network.specs.Nets.{NetState, AreAtRest, IsNet, IsKept, net_of, readers_of, entries_of, reads_cell}
+use Rattle.ctc_network.specs.Nets.{AreAtRest, IsKept, readers_of, entries_of, reads_cell}
 use Rattle.ctc_network.specs.Rosters.{Members}
 use Rattle.ctc_network.specs.Settling.{waiting_after}
 use Rattle.ctc_network.proofs.Runs.{same-fixpoint, get-all}

@@ -1,7 +1,7 @@
 -- Contractors under the keys of a slab, and their marks.
-use Rattle.std.proofs.Common.{◌≡◌, cond, ℕ, zero, suc, ◌+◌, ◌<◌, ◌≤◌, Option, Some, None, List, [], ◌∷◌, ◌++◌, Bool, true, false, not, nat_eq, IsSome, refl, sym, subst, ap, ap₂, ◌∙◌, length, map, replicate, get_or, count_by, sum_by, All, arith, slice_get, filter_map}
+use Rattle.std.proofs.Common.{◌≡◌, cond, ℕ, zero, suc, ◌+◌, ◌<◌, ◌≤◌, Option, Some, None, List, [], ◌∷◌, ◌++◌, Bool, true, not, nat_eq, IsSome, refl, sym, subst, ap, ap₂, ◌∙◌, length, map, replicate, get_or, count_by, All, arith, slice_get, filter_map}
 use Rattle.std.specs.List.{cons_option}
-use Rattle.std.proofs.lemmas.List.{length-map, length-replicate}
+use Rattle.std.proofs.lemmas.List.{map-append}
 use Rattle.std.proofs.lemmas.List.Elements.{All-head, All-tail, filter_map-append, All-push}
 use Rattle.std.proofs.lemmas.List.Sums.{sum_by-cons}
 use Rattle.slab.specs.Slab.{Slab, get, ContainsKey, Updates}
@@ -70,3 +70,19 @@ count-map f (x ∷ xs) =
 
 pub same_members : {T : Type 0} (a b : Members T) → a.contractors ≡ b.contractors → a.waiting ≡ b.waiting → a ≡ b
 same_members {T} a b p q = ap₂ (λ (cs : List T) (ws : List Bool). let m : Members T = record { contractors = cs; waiting = ws } in m) p q
+
+-- what a roster shows
+abbrev pub members_of : {T : Type 0} → Slab T → List ℕ → List ℕ → ℕ → Members T
+members_of slab keys marks generation = record { contractors = filter_map (get slab) keys; waiting = map (waits_at generation) marks }
+
+-- a contractor more, with the mark of no generation
+pub members-push : {T : Type 0} (old new : Slab T) (keys more marks others : List ℕ) (generation key : ℕ) (c : T) (m : Members T) → members_of old keys marks generation ≡ m
+    → All (ContainsKey old) keys → get old key ≡ None → Updates old new key (Some c) → more ≡ keys ++ key ∷ [] → others ≡ marks ++ 0 ∷ [] → 0 < generation
+    → members_of new more others generation ≡ record { contractors = m.contractors ++ c ∷ []; waiting = m.waiting ++ true ∷ [] }
+members-push {T} old new keys more marks others generation key c m view held vacant updates ks ms some =
+    same_members _ _
+    (ap (filter_map (get new)) ks ∙ held-push old new keys key c held vacant updates ∙ ap (λ (n : Members T). n.contractors ++ c ∷ []) view)
+    (ap (map (waits_at generation)) ms ∙ map-append (waits_at generation) marks (0 ∷ []) ∙ ap₂ (λ (ws : List Bool) (w : Bool). ws ++ w ∷ []) (ap (λ (n : Members T). n.waiting) view) waits)
+  where
+    waits : waits_at generation 0 ≡ true
+    waits = grind arith

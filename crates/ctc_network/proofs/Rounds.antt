@@ -1,5 +1,5 @@
 -- Rounds of turns, and firings by a list of numbers.
-use Rattle.std.proofs.Common.{◌≡◌, ℕ, zero, suc, ◌+◌, ◌-◌, ◌<◌, ◌≤◌, ◌⊎◌, inl, inr, Option, Some, None, List, [], ◌∷◌, ◌++◌, Bool, false, IsFalse, IsSome, IsNone, IfSome, refl, sym, ap, ap₂, subst, ◌∙◌, length, take, set, get_or, All, arith, slice_get, flat_map, filter_map, append-nil}
+use Rattle.std.proofs.Common.{◌≡◌, ℕ, zero, suc, ◌+◌, ◌<◌, ◌≤◌, ◌⊎◌, inl, inr, Option, Some, None, List, [], ◌∷◌, ◌++◌, Bool, false, IsFalse, IsSome, IsNone, IfSome, refl, sym, ap, subst, ◌∙◌, length, take, set, get_or, All, arith, slice_get, flat_map, append-nil}
 use Rattle.std.proofs.lemmas.List.{take_more}
 use Rattle.std.proofs.lemmas.List.Elements.{filter_map-append}
 use Rattle.std.proofs.lemmas.List.Concat.{flat_map-append}
@@ -7,7 +7,7 @@ use Rattle.std.proofs.lemmas.Option.{get_or_from_slice_get}
 use Rattle.std.specs.List.{cons_option}
 use Rattle.tube_spec.specs.Span.{Span}
 use Rattle.tube_spec.specs.Shape.{Shape}
-use Rattle.tube_spec.specs.Box.{measure_of, IsBelowBox}
+use Rattle.tube_spec.specs.Box.{measure_of}
 use Rattle.tube_spec.specs.Projection.{Projection, IsMonotone}
 use Rattle.tube_spec.proofs.Prefixes.{below-or-not}
 use Rattle.tube_store.specs.State.{State}
@@ -19,7 +19,7 @@ use Rattle.ctc_network.specs.declared.answers.CtcId.{CtcId}
 use Rattle.ctc_network.specs.declared.answers.Order.{Order}
 use Rattle.ctc_network.specs.declared.answers.Order.TheVariants.{Fifo, Lifo, Rank}
 use Rattle.ctc_network.specs.Settling.{IsNarrowedBy, number_at, contractors_at}
-use Rattle.ctc_network.proofs.Runs.{narrowed-none, narrowed-trans, narrowed-fire, measure-falls}
+use Rattle.ctc_network.proofs.Runs.{narrowed-trans, measure-falls}
 
 -- a mark of false
 pub rest-here : (ws : List Bool) (i : ℕ) → i < length ws → slice_get (set ws i false) i ≡ Some false

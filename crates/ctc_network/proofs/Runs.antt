@@ -1,5 +1,5 @@
 -- Runs of firings, and where they end.
-use Rattle.std.proofs.Common.{◌≡◌, ℕ, zero, suc, ◌+◌, ◌<◌, ◌≤◌, Option, Some, None, List, [], ◌∷◌, ◌++◌, Bool, true, false, IsFalse, IsSome, IsNone, IfSome, refl, sym, ap, subst, ◌∙◌, length, get_or, All, arith, slice_get, flat_map}
+use Rattle.std.proofs.Common.{◌≡◌, ℕ, zero, suc, ◌<◌, ◌≤◌, Option, Some, None, List, [], ◌∷◌, ◌++◌, Bool, true, IsFalse, IsSome, IsNone, IfSome, refl, sym, ap, subst, ◌∙◌, length, get_or, All, arith, slice_get, flat_map}
 use Rattle.std.proofs.lemmas.List.Elements.{All-append}
 use Rattle.std.proofs.lemmas.Option.{slice_get-get_or}
 use Rattle.tube_spec.specs.Span.{Span}

@@ -1,5 +1,5 @@
 -- The law of schedules, for any projections and any fit that keep the laws.
-use Rattle.std.proofs.Common.{ap₂, ◌≡◌, ℕ, zero, suc, ◌+◌, ◌-◌, ◌*◌, ◌<◌, ◌≤◌, Option, Some, None, List, [], ◌∷◌, ◌++◌, IfSome, arith, refl, sym, ap, subst, ◌∙◌, length, take, get_or, get_or-take, length-append, replicate, append-nil, append_assoc, pos, All, Contains, flat_map, slice_get}
+use Rattle.std.proofs.Common.{ap₂, ◌≡◌, ℕ, suc, ◌+◌, ◌-◌, ◌*◌, ◌<◌, ◌≤◌, Option, Some, None, List, [], ◌∷◌, ◌++◌, IfSome, arith, refl, sym, ap, subst, ◌∙◌, length, take, get_or, get_or-take, length-append, replicate, append-nil, append_assoc, pos, All, Contains, flat_map, slice_get}
 use Rattle.std.proofs.Math.ListN.{length-replicate, get_or-append}
 use Rattle.std.proofs.lemmas.List.Elements.{All-push, All-nil, All-append}
 use Rattle.std.proofs.lemmas.Int.{ints}

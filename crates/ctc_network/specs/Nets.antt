@@ -1,5 +1,5 @@
 -- What contracts see of a net.
-use Rattle.std.specs.Prelude.{◌≡◌, ℕ, ◌≤◌, Option, Some, List, [], Bool, true, false, nat_eq, length, IfSome, All, sum_by, count_by, slice_get, slice_index}
+use Rattle.std.specs.Prelude.{◌≡◌, ℕ, ◌≤◌, Option, Some, List, [], Bool, false, nat_eq, length, IfSome, All, sum_by, count_by, slice_get, slice_index}
 use Rattle.std.specs.List.{list_any}
 use Rattle.tube_spec.specs.Span.{Span}
 use Rattle.tube_spec.specs.Shape.{Shape}

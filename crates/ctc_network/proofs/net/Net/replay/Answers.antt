@@ -1,5 +1,4 @@
-use Rattle.std.proofs.Common.{◌≡◌, ◌<◌, Some, List, length, get_or, ap, sym, subst, ◌∙◌, flat_map, slice_get, take_all, arith}
-use Rattle.std.proofs.lemmas.Option.{slice_get-get_or}
+use Rattle.std.proofs.Common.{◌≡◌, ◌<◌, Some, List, length, get_or, ap, subst, ◌∙◌, flat_map, slice_get, take_all, arith}
 use Rattle.ctc_core.specs.Answers.{Revises}
 use Rattle.ctc_network.specs.Nets.{NetState, IsNet}
 use Rattle.ctc_network.specs.declared.answers.CtcId.{CtcId}

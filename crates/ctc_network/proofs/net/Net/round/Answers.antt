@@ -1,4 +1,4 @@
-use Rattle.std.proofs.Common.{◌≡◌, ℕ, ◌+◌, List, Bool, sym, subst, ap, ◌∙◌, arith}
+use Rattle.std.proofs.Common.{ℕ, ◌+◌, sym, subst, ◌∙◌}
 use Rattle.ctc_core.specs.declared.Revised.{Revised}
 use Rattle.ctc_network.specs.Settling.{number_at}
 use Rattle.ctc_network.proofs.Rounds.{TurnsSay, TurnSays, turns-more, turn-some, turns-all, run-then}

@@ -1,4 +1,4 @@
-use Rattle.std.proofs.Common.{◌≡◌, ◌+◌, ◌≤◌, IsSome, sym, subst, ap, refl, ◌∙◌, flat_map, arith}
+use Rattle.std.proofs.Common.{IsSome, sym, subst, ap, refl, ◌∙◌, flat_map, arith}
 use Rattle.tube_spec.specs.Box.{measure_of}
 use Rattle.tube_store.specs.State.{State}
 use Rattle.ctc_network.specs.Nets.{NetState}

@@ -1,4 +1,4 @@
-use Rattle.std.proofs.Common.{◌≡◌, Some, IsSomeAnd, refl, sym, subst, ap, ◌∙◌, slice_get}
+use Rattle.std.proofs.Common.{IsSomeAnd, refl, sym, subst, ap, ◌∙◌, slice_get}
 use Rattle.tube_spec.specs.Fixpoint.{IsFixpoint}
 use Rattle.ctc_network.specs.Rosters.{Members}
 use Rattle.ctc_network.specs.Nets.{NetState, IsKept}

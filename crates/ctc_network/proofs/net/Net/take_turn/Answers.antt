@@ -1,4 +1,4 @@
-use Rattle.std.proofs.Common.{◌≡◌, Some, length, sym, ap, refl, ◌∙◌, slice_get}
+use Rattle.std.proofs.Common.{Some, length, sym, ap, refl, ◌∙◌, slice_get}
 use Rattle.ctc_core.specs.Answers.{Revises}
 use Rattle.ctc_core.specs.declared.Revised.{Revised}
 use Rattle.ctc_network.specs.Nets.{NetState}

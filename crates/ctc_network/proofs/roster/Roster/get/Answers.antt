@@ -1,4 +1,4 @@
-use Rattle.std.proofs.Common.{◌≡◌, ◌<◌, ◌∙◌, Some, ap, subst, sym, length, slice_get, arith}
+use Rattle.std.proofs.Common.{◌∙◌, ap, subst, sym, length, slice_get, arith}
 use Rattle.slab.specs.Slab.{ContainsKey, get}
 use Rattle.ctc_network.specs.Rosters.{Members}
 use Rattle.ctc_network.proofs.Numbers.{held-length, held-get}

@@ -1,4 +1,4 @@
-use Rattle.std.proofs.Common.{◌≡◌, ◌∙◌, ap, length}
+use Rattle.std.proofs.Common.{ap, length}
 use Rattle.std.proofs.lemmas.List.{length-map}
 use Rattle.ctc_network.specs.Rosters.{Members, waits_at}
 use Rattle.ctc_network.proofs.Numbers.{held-length}

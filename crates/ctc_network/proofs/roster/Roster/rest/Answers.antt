@@ -1,4 +1,4 @@
-use Rattle.std.proofs.Common.{◌≡◌, ℕ, Bool, List, false, not, nat_eq, set, ◌∙◌, ap, ap₂, arith}
+use Rattle.std.proofs.Common.{◌≡◌, ℕ, Bool, List, false, set, ◌∙◌, ap, ap₂, arith}
 use Rattle.std.proofs.lemmas.List.{map-set}
 use Rattle.ctc_network.specs.Rosters.{Members, waits_at}
 use Rattle.ctc_network.proofs.Numbers.{same_members}
