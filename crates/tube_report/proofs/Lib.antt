@@ -1,0 +1,4 @@
+pub mod Written
+pub mod Summaries
+pub mod Declarations
+pub mod Boxes

@@ -1,0 +1,15 @@
+//! The report: what a run writes of each section of a mission, of a refused log and of wrong words.
+//!
+//! Lines end with byte 10, words are parted by one space, and numbers are decimal. Bounds are in
+//! millimetres, or in whatever unit the signal or variable has, and times in ticks. No call takes memory.
+#![tactic(auto)]
+
+pub mod laws;
+pub mod refusal;
+pub mod section;
+#[cfg(test)]
+mod tests;
+pub mod tube;
+
+pub use refusal::{write_fault, write_usage};
+pub use section::{Verdict, write_section};
