@@ -60,13 +60,6 @@ pub enum Cause {
     LateCut = 24,
 }
 
-impl Cause {
-    /// The number of the cause.
-    pub fn number(self) -> u32 {
-        self as u32
-    }
-}
-
 /// Why a record was not taken.
 #[derive(Clone, Copy, Debug, PartialEq, Eq)]
 pub enum Stop {

@@ -4,6 +4,7 @@ use crate::{Cause, Item, LogFault, Mission, read_log};
 use std::alloc::Global;
 use std::process::Abort;
 use std::test::Fail;
+use tube_io::Text;
 
 /// Why a log is refused, if it is.
 fn refusal(alloc: Global, log: &[u8]) -> Result<Option<(u32, Cause)>, Fail> {
@@ -76,6 +77,13 @@ fn reads_a_mission(rt: HostRuntime) -> Result<(), Fail> {
     Ok(())
 }
 
+fn first_letter(name: &Text) -> char {
+    match name.bytes() {
+        [first, ..] => *first as char,
+        [] => '?',
+    }
+}
+
 /// The records of a mission in words.
 fn shown(alloc: Global, mission: &Mission) -> Result<String, Fail> {
     let mut out = String::new(alloc);
@@ -85,13 +93,13 @@ fn shown(alloc: Global, mission: &Mission) -> Result<String, Fail> {
             Item::Note => String::from_str(alloc, "note ")?,
             Item::Signal { name, range } => format!(in alloc;
                 "signal {} {} {} ",
-                name.bytes()[0] as char,
+                first_letter(name),
                 range.lo(),
                 range.hi()
             )?,
             Item::Variable { name, range } => format!(in alloc;
                 "variable {} {} {} ",
-                name.bytes()[0] as char,
+                first_letter(name),
                 range.lo(),
                 range.hi()
             )?,
