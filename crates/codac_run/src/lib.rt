@@ -1,0 +1,10 @@
+//! The top call: from the words of the command line and the bytes of a mission log to the bytes of the report and a status. Its
+//! contract carries what the program promises: enclosure, the greatest fixpoint, and the cause of every answer.
+#![tactic(auto)]
+
+mod ended;
+mod hearing;
+mod top;
+
+pub use ended::{Ended, SpentAt, Status};
+pub use top::run;
