@@ -1,0 +1,8 @@
+//! Worked missions, over the crates together: settled on a network that is built by hand, and run from bytes to bytes. All expected
+//! numbers were worked out from the formulas, and none was taken from the program.
+#![tactic(auto)]
+
+#[cfg(test)]
+mod net_rows;
+#[cfg(test)]
+mod run_rows;
