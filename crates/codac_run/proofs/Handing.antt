@@ -17,21 +17,15 @@ use Rattle.codac_run.specs.declared.ended.Status.{Status}
 use Rattle.codac_run.specs.declared.ended.Status.TheVariants as status
 use Rattle.codac_run.specs.declared.ended.SpentAt.{SpentAt}
 use Rattle.codac_run.specs.declared.ended.Ended.{Ended}
-use Rattle.codac_run.specs.Reports.{IsShown, IsReport, IsSpent, HandsSpent, IsSettledNet, HandsNet, HandsWhere, HandsNetWhere, IsSettledOnly, verdict_of, status_of, Writes, Reports}
-
--- the verdict says what the answer of settling says
-shown : (grid : List ℕ) (m : Mission) (box : Option (List Span)) (a : Settled) → IsSectionAs m.cuts m.items box a → IsShown m.cuts m.items (verdict_of a) box
-shown grid m box answer.Fixpoint h = h
-shown grid m box answer.Empty h = h
-shown grid m box (answer.Spent id) h = h
+use Rattle.codac_run.specs.Reports.{IsReport, IsSpent, HandsSpent, IsSettledNet, HandsNet, HandsWhere, HandsNetWhere, IsSettledOnly, verdict_of, status_of, Writes, Reports}
 
 hands-spent : (m : Mission) (budget began : ℕ) (net : NetState AnyCtc) (a : Settled) (spent : Option SpentAt) → began ≡ measure_of (Some (start m.cuts m.items))
-    → IsSpentAs m.cuts m.items net.store.box began budget a → HandsWhere a began net spent → HandsSpent m budget (verdict_of a) net.store.box spent
+    → IsSpentAs m.cuts m.items net.store.box began budget a → HandsWhere a began net spent → HandsSpent m budget a net.store.box spent
 hands-spent m budget began net answer.Fixpoint spent e cause h = h
 hands-spent m budget began net answer.Empty spent e cause h = h
 hands-spent m budget began net (answer.Spent id) spent e cause h =
-    subst (λ (o : Option SpentAt). IsSomeAnd o (IsSpent m budget net.store.box)) (sym h)
-    (record { first = refl; held = refl; before = e; after = refl; fell = cause.0; narrows = cause.1 })
+    subst (λ (o : Option SpentAt). IsSomeAnd o (λ at. (at.ctc ≡ id) × IsSpent m budget net.store.box at)) (sym h)
+    (refl, record { first = refl; held = refl; before = e; after = refl; cause = cause })
 
 hands-net : (m : Mission) (s : Status) (net : NetState AnyCtc) (handed : Option (NetState AnyCtc)) → (s ≡ status.Settled → IsSettledNet m net.store.box net) → HandsNetWhere s net handed → HandsNet m net.store.box s handed
 hands-net m status.Settled net handed settled h = subst (λ (o : Option (NetState AnyCtc)). IsSomeAnd o (IsSettledNet m net.store.box)) (sym h) (settled refl)
@@ -63,12 +57,12 @@ pub reported : (m : Mission) (asked : Asked) (old new : Option (List ℕ)) (flus
     → (s ≡ status_of (verdict_of a)) ⊎ (s ≡ status.WriteFault) → Writes text (status_of (verdict_of a)) old new flushed s
     → e.status ≡ s → HandsWhere a began net e.spent → HandsNetWhere s net e.net → Reports m asked old new flushed e
 reported m asked old new flushed net a began text s e holds section encloses resting is cause prints only writes same spent handed = record {
-  v = verdict_of a;
+  answer = a;
   box = net.store.box;
   text = text;
   report = record {
     prints = prints ∙ ap (λ shape. section_text m.items 1 (verdict_of a) shape net.store.box asked.brief) holds.shape;
-    greatest = shown m.cuts m net.store.box a section;
+    greatest = section;
     encloses = encloses;
   };
   writes = subst (Writes text (status_of (verdict_of a)) old new flushed) (sym same) writes;

@@ -14,8 +14,8 @@ use Rattle.mission_log.specs.declared.item.Mission.{Mission}
 use Rattle.cli_words.specs.declared.answer.Asked.{Asked}
 use Rattle.cli_words.specs.declared.answer.Mode.{Mode}
 use Rattle.cli_words.specs.declared.answer.Mode.TheVariants as mode
-use Rattle.mission_net.specs.Records.{shape_by, start, IsSection, IsEnclosure, Encloses}
-use Rattle.mission_net.specs.Building.{IsNetOf, StillNarrows}
+use Rattle.mission_net.specs.Records.{shape_by, start, Encloses}
+use Rattle.mission_net.specs.Building.{IsNetOf, IsSectionAs, IsSpentAs}
 use Rattle.mission_net.specs.declared.AnyCtc.{AnyCtc}
 use Rattle.tube_report.specs.Causes.{fault_line, usage_line}
 use Rattle.tube_report.specs.Sections.{section_text}
@@ -40,35 +40,32 @@ built (Some asked) = solved asked.mode asked
 
 -- ---- what the report says
 
--- A section that is settled or empty is the greatest common fixpoint of the records below their declared ranges, empty exactly where
--- there is none; one that was spent lost no common fixpoint.
-abbrev pub IsShown : List ℕ → List Item → Verdict → Option (List Span) → Type 0
-IsShown grid items verdict.Settled box = IsSome box × IsSection grid items box
-IsShown grid items verdict.Empty box = IsNone box × IsSection grid items box
-IsShown grid items verdict.Spent box = IsSome box × IsEnclosure grid items box
+-- the verdict of a section, by the answer of settling
+abbrev pub verdict_of : Settled → Verdict
+verdict_of answer.Fixpoint = verdict.Settled
+verdict_of answer.Empty = verdict.Empty
+verdict_of (answer.Spent id) = verdict.Spent
 
--- The text is the report of a mission, of which this is the box: it is the greatest, unless it was spent, and it encloses every
--- assignment that satisfies the records.
-pub record IsReport (m : Mission) (brief : Bool) (v : Verdict) (box : Option (List Span)) (text : List ℕ) : Type 0 where
-  pub prints : text ≡ section_text m.items 1 v (shape_by m.cuts m.items) box brief
-  pub greatest : IsShown m.cuts m.items v box
+-- The text is the report of a mission whose settling ended with this answer and this box: the box is what the answer says, and it
+-- encloses every assignment that satisfies the records.
+pub record IsReport (m : Mission) (brief : Bool) (a : Settled) (box : Option (List Span)) (text : List ℕ) : Type 0 where
+  pub prints : text ≡ section_text m.items 1 (verdict_of a) (shape_by m.cuts m.items) box brief
+  pub greatest : IsSectionAs m.cuts m.items box a
   pub encloses : Encloses m.cuts m.items box
 
 -- ---- what is handed out
 
--- the budget was spent: the measure fell by it at least, and a contractor still narrows the box
+-- where the budget was spent: the measure fell by it at least, and the contractor named still narrows the box
 pub record IsSpent (m : Mission) (budget : ℕ) (box : Option (List Span)) (at : SpentAt) : Type 0 where
   pub first : at.section ≡ 1
   pub held : at.store.box ≡ box
   pub before : at.began ≡ measure_of (Some (start m.cuts m.items))
   pub after : at.now ≡ measure_of box
-  pub fell : at.now + budget ≤ at.began
-  pub narrows : StillNarrows m.cuts m.items box at.ctc.0
+  pub cause : IsSpentAs m.cuts m.items box at.began budget (answer.Spent at.ctc)
 
-abbrev pub HandsSpent : Mission → ℕ → Verdict → Option (List Span) → Option SpentAt → Type 0
-HandsSpent m budget verdict.Settled box spent = spent ≡ None
-HandsSpent m budget verdict.Empty box spent = spent ≡ None
-HandsSpent m budget verdict.Spent box spent = IsSomeAnd spent (IsSpent m budget box)
+abbrev pub HandsSpent : Mission → ℕ → Settled → Option (List Span) → Option SpentAt → Type 0
+HandsSpent m budget (answer.Spent id) box spent = IsSomeAnd spent (λ at. (at.ctc ≡ id) × IsSpent m budget box at)
+HandsSpent m budget other box spent = spent ≡ None
 
 -- the net of all records at that box, in which no contractor waits
 pub record IsSettledNet (m : Mission) (box : Option (List Span)) (net : NetState AnyCtc) : Type 0 where
@@ -83,9 +80,8 @@ HandsNet m box other net = net ≡ None
 
 -- what is handed out of a net whose settling ended so
 abbrev pub HandsWhere : Settled → ℕ → NetState AnyCtc → Option SpentAt → Type 0
-HandsWhere answer.Fixpoint began net spent = spent ≡ None
-HandsWhere answer.Empty began net spent = spent ≡ None
 HandsWhere (answer.Spent id) began net spent = spent ≡ Some (record { section = 1; ctc = id; began = began; now = measure_of net.store.box; store = net.store })
+HandsWhere other began net spent = spent ≡ None
 
 -- the net is handed out where the status is Settled
 abbrev pub HandsNetWhere : Status → NetState AnyCtc → Option (NetState AnyCtc) → Type 0
@@ -98,12 +94,6 @@ IsSettledOnly (answer.Spent id) s = s ≡ status.Settled → ⊥
 IsSettledOnly other s = Unit {0}
 
 -- ---- what is written
-
--- the verdict of a section, by the answer of settling
-abbrev pub verdict_of : Settled → Verdict
-verdict_of answer.Fixpoint = verdict.Settled
-verdict_of answer.Empty = verdict.Empty
-verdict_of (answer.Spent id) = verdict.Spent
 
 abbrev pub status_of : Verdict → Status
 status_of verdict.Settled = status.Settled
@@ -128,12 +118,12 @@ Stops s old new e = (e.status ≡ s) × (new ≡ old) × IsBare e
 
 -- over an accepted log: the report of its one section
 pub record Reports (m : Mission) (asked : Asked) (old new : Option (List ℕ)) (flushed : Option ℕ) (e : Ended) : Type 0 where
-  pub v : Verdict
+  pub answer : Settled
   pub box : Option (List Span)
   pub text : List ℕ
-  pub report : IsReport m asked.brief v box text
-  pub writes : Writes text (status_of v) old new flushed e.status
-  pub spent : HandsSpent m asked.budget v box e.spent
+  pub report : IsReport m asked.brief answer box text
+  pub writes : Writes text (status_of (verdict_of answer)) old new flushed e.status
+  pub spent : HandsSpent m asked.budget answer box e.spent
   pub net : HandsNet m box e.status e.net
 
 -- over a log that was heard: the line of its fault, or its report

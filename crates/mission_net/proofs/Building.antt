@@ -27,7 +27,8 @@ use Rattle.mission_net.specs.Records.{made, owners, shape_by, start, constraints
 use Rattle.mission_net.specs.declared.AnyCtc.{AnyCtc}
 use Rattle.mission_net.specs.Contractors.{constraint_of}
 use Rattle.mission_net.specs.Building.{IsNetOf, IsAdded, Suits}
-use Rattle.mission_net.proofs.Enclosing.{shape-snoc, shape-grid, shape-append, shape-extends, signals-count, satisfies-in-range}
+use Rattle.mission_net.proofs.Enclosing.{shape-snoc, shape-grid, shape-append, shape-extends, satisfies-in-range}
+use Rattle.mission_net.proofs.Counts.{signals-count}
 use Rattle.mission_net.proofs.Reading.{start-append, constraints-append, constraints-snoc, right-at, cells-count, records-reads, records-count, each-reads, each-length}
 
 -- ---- boxes with further cells

@@ -23,6 +23,7 @@ use Rattle.mission_log.specs.Valid.{IsRight, AreRightFrom, AreRight}
 use Rattle.mission_net.specs.Constraints.{Constraint, SliceOf, DerivOf, BoundOf, constraint_projections, IsOf, Satisfies}
 use Rattle.mission_net.specs.Records.{made, owners, shape_by, start, constraints_of, constraints_from, constraints, projections, IsSection, IsEnclosure, Encloses, Says, SatisfiesFrom, SatisfiesAll}
 use Rattle.mission_net.proofs.Stable.{constraint-stable}
+use Rattle.mission_net.proofs.Counts.{signals-count}
 
 pub All-flat_map : {X Y : Type 0} (P : Y → Type 0) (f : X → List Y) (xs : List X) → All (λ x. All P (f x)) xs → All P (flat_map f xs)
 All-flat_map P f [] h = All-nil P
@@ -40,22 +41,6 @@ shape-extends grid before rs = subst (Extends (shape_by grid before)) (sym (shap
 
 pub shape-grid : (grid : List ℕ) (items : List Item) → (shape_by grid items).grid ≡ grid
 shape-grid grid items = (owners-extend (owners items) (no_shape grid)).grid
-
--- the signals of the shape are those that the records make
-signals-of : (items : List Item) (s : Shape) → length (with_owners s (owners items)).signals ≡ length s.signals + signals_in items
-signals-of [] s = omega arith
-signals-of (Head ∷ items) s = signals-of items s ∙ omega (arith, sum_by-cons signals_made Head items)
-signals-of (Note ∷ items) s = signals-of items s ∙ omega (arith, sum_by-cons signals_made Note items)
-signals-of (Signal name range ∷ items) s =
-    signals-of items (with_owner s (SignalIn range)) ∙ omega (arith, length-append s.signals (s.cells ∷ []), sum_by-cons signals_made (Signal name range) items)
-signals-of (Variable name range ∷ items) s = signals-of items (with_owner s (VariableIn range)) ∙ omega (arith, sum_by-cons signals_made (Variable name range) items)
-signals-of (Deriv x rate ∷ items) s = signals-of items s ∙ omega (arith, sum_by-cons signals_made (Deriv x rate) items)
-signals-of (Bound x first last range ∷ items) s = signals-of items s ∙ omega (arith, sum_by-cons signals_made (Bound x first last range) items)
-signals-of (At x tick range ∷ items) s =
-    signals-of items (with_owner (with_owner s (VariableIn (point (pos tick)))) (VariableIn range)) ∙ omega (arith, sum_by-cons signals_made (At x tick range) items)
-
-pub signals-count : (grid : List ℕ) (items : List Item) → length (shape_by grid items).signals ≡ signals_in items
-signals-count grid items = signals-of items (no_shape grid) ∙ omega arith
 
 -- the declared ranges
 AreInRange-append : (end : ℕ) (a : Assignment) (xs ys : List Owner) (s : Shape) → AreInRange end s a xs → AreInRange end (with_owners s xs) a ys → AreInRange end s a (xs ++ ys)

@@ -1,4 +1,5 @@
 pub mod Stable
+pub mod Counts
 pub mod Enclosing
 pub mod Reading
 pub mod Building

@@ -16,8 +16,7 @@ use Rattle.tube_report.specs.declared.section.Verdict.{Verdict}
 use Rattle.codac_run.specs.declared.ended.Status.{Status}
 use Rattle.codac_run.specs.declared.ended.Status.TheVariants as status
 use Rattle.codac_run.specs.Reports.{verdict_of, status_of, Writes}
-use Rattle.mission_net.proofs.Enclosing.{signals-count}
-use Rattle.codac_run.proofs.Counts.{variables-count}
+use Rattle.mission_net.proofs.Counts.{signals-count, variables-count}
 use Rattle.codac_run.proofs.Handing.{reported, settled-only}
 use Rattle.codac_run.proofs.top.report.Goals as goal
 
