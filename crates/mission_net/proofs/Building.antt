@@ -23,12 +23,12 @@ use Rattle.mission_log.specs.Names.{signals_in}
 use Rattle.mission_log.specs.Room.{feet_of}
 use Rattle.mission_log.specs.Valid.{IsMission, IsRight, AreRight}
 use Rattle.mission_net.specs.Constraints.{Constraint, SliceOf, DerivOf, reads_of}
-use Rattle.mission_net.specs.Records.{made, owners, shape_by, start, constraints_of, constraints_from, constraints, SatisfiesFrom, SatisfiesAll}
+use Rattle.mission_net.specs.Records.{made, owners, owners_from, shape_by, start, constraints_of, constraints_from, constraints, SatisfiesFrom, SatisfiesAll}
 use Rattle.mission_net.specs.declared.AnyCtc.{AnyCtc}
 use Rattle.mission_net.specs.Contractors.{constraint_of}
-use Rattle.mission_net.specs.Building.{IsNetOf, IsAdded, Suits}
-use Rattle.mission_net.proofs.Enclosing.{shape-snoc, shape-grid, shape-append, shape-extends, satisfies-in-range}
-use Rattle.mission_net.proofs.Counts.{signals-count}
+use Rattle.mission_net.specs.Building.{IsNetOf, IsAdded}
+use Rattle.mission_net.proofs.Shapes.{owners-append, shape-snoc, shape-grid, shape-append, shape-extends}
+use Rattle.mission_net.proofs.Enclosing.{satisfies-in-range}
 use Rattle.mission_net.proofs.Reading.{start-append, constraints-append, constraints-snoc, right-at, cells-count, records-reads, records-count, each-reads, each-length}
 
 -- ---- boxes with further cells
@@ -104,59 +104,28 @@ none-few os a b p = let e = ap length (p.contractors ∙ append-nil (map constra
 pub none-reads : (os : List Owner) (a b : NetState AnyCtc) → IsAdded os [] a b → sum_by reads_of (map constraint_of b.contractors) ≡ sum_by reads_of (map constraint_of a.contractors)
 none-reads os a b p = ap (sum_by reads_of) (p.contractors ∙ append-nil (map constraint_of a.contractors))
 
--- ---- the room that a record of a kind asks for
-
-module _ (s : Shape) (item : Item) (k : ℕ) (slices : k + 1 ≡ length s.grid) where
-  pub signal-few : (name : List ℕ) (range : Span) (n : ℕ) → item ≡ Signal name range → n + length (constraints_of s item) ≤ 4000000000 → n + k ≤ 4000000000
-  signal-few name range n e few =
-      let made : n + length (constraints_of s (Signal name range)) ≤ 4000000000 = subst (λ (r : Item). n + length (constraints_of s r) ≤ 4000000000) e few in
-      omega (arith, made, slices, each-length (λ i. SliceOf (length s.signals) i) (length s.grid - 1))
-
-  pub signal-room : (name : List ℕ) (range : Span) (n : ℕ) → item ≡ Signal name range → n + sum_by reads_of (constraints_of s item) ≤ 20000000 → n + 3 * k ≤ 20000000
-  signal-room name range n e room =
-      let made : n + sum_by reads_of (constraints_of s (Signal name range)) ≤ 20000000 = subst (λ (r : Item). n + sum_by reads_of (constraints_of s r) ≤ 20000000) e room in
-      omega (arith, made, slices, each-reads (λ i. SliceOf (length s.signals) i) 3 (λ i. refl) (length s.grid - 1))
-
-  pub deriv-few : (x rate : SignalId) (n : ℕ) → item ≡ Deriv x rate → n + length (constraints_of s item) ≤ 4000000000 → n + k ≤ 4000000000
-  deriv-few x rate n e few =
-      let made : n + length (constraints_of s (Deriv x rate)) ≤ 4000000000 = subst (λ (r : Item). n + length (constraints_of s r) ≤ 4000000000) e few in
-      omega (arith, made, slices, each-length (λ i. DerivOf x.0 rate.0 i) (length s.grid - 1))
-
-  pub deriv-room : (x rate : SignalId) (n : ℕ) → item ≡ Deriv x rate → n + sum_by reads_of (constraints_of s item) ≤ 20000000 → n + 4 * k ≤ 20000000
-  deriv-room x rate n e room =
-      let made : n + sum_by reads_of (constraints_of s (Deriv x rate)) ≤ 20000000 = subst (λ (r : Item). n + sum_by reads_of (constraints_of s r) ≤ 20000000) e room in
-      omega (arith, made, slices, each-reads (λ i. DerivOf x.0 rate.0 i) 4 (λ i. refl) (length s.grid - 1))
-
--- the tick of an evaluation is of the clock
-pub at-tick : (s : Shape) (item : Item) (x : SignalId) (tick : ℕ) (range : Span) → item ≡ At x tick range → Suits s item → tick ≤ 100000
-at-tick s item x tick range e suits =
-    let right : IsRight suits.end suits.before (At x tick range) = subst (IsRight suits.end suits.before) e suits.right in
-    let low = right.1 in
-    omega (arith, low, suits.short)
-
 -- ---- the net of the records so far, and what was added to it
 
-pub added-holds : (grid : List ℕ) (before : List Item) (r : Item) (old new : NetState AnyCtc) → IsNetOf grid before old → IsAdded (made r) (constraints_of old.store.shape r) old new → IsNetOf grid (before ++ r ∷ []) new
+pub added-holds : (grid : List ℕ) (before : List Item) (r : Item) (old new : NetState AnyCtc) → IsNetOf grid before old → IsAdded (made before r) (constraints_of grid before r) old new → IsNetOf grid (before ++ r ∷ []) new
 added-holds grid before r old new holds added =
     let same : old.store.shape.grid ≡ grid = ap (λ (s : Shape). s.grid) holds.shape ∙ shape-grid grid before in
-    let box : new.store.box ≡ box_more old.store.box (start_of grid (made r)) = added.box ∙ ap (λ (g : List ℕ). box_more old.store.box (start_of g (made r))) same in
-    let starts : start grid (before ++ r ∷ []) ≡ start grid before ++ start_of grid (made r) = start-append grid before (r ∷ []) ∙ ap (λ (os : List Owner). start grid before ++ start_of grid os) (append-nil (made r)) in record {
-      shape = added.shape ∙ ap (λ (s : Shape). with_owners s (made r)) holds.shape ∙ sym (shape-snoc grid before r);
-      contractors =
-          added.contractors ∙ ap₂ (λ (xs ys : List Constraint). xs ++ ys) holds.contractors (ap (λ (s : Shape). constraints_of s r) holds.shape) ∙ sym (constraints-snoc grid before r);
+    let box : new.store.box ≡ box_more old.store.box (start_of grid (made before r)) = added.box ∙ ap (λ (g : List ℕ). box_more old.store.box (start_of g (made before r))) same in
+    let starts : start grid (before ++ r ∷ []) ≡ start grid before ++ start_of grid (made before r) = start-append grid before (r ∷ []) ∙ ap (λ (os : List Owner). start grid before ++ start_of grid os) (append-nil (made before r)) in record {
+      shape = added.shape ∙ ap (λ (s : Shape). with_owners s (made before r)) holds.shape ∙ sym (shape-snoc grid before r);
+      contractors = added.contractors ∙ ap (λ (xs : List Constraint). xs ++ constraints_of grid before r) holds.contractors ∙ sym (constraints-snoc grid before r);
       below = subst (λ (b : Option (List Span)). IsBelowBox b (Some (start grid (before ++ r ∷ [])))) (sym box)
-          (subst (λ (d : List Span). IsBelowBox (box_more old.store.box (start_of grid (made r))) (Some d)) (sym starts) (more-low old.store.box (start grid before) (start_of grid (made r)) holds.below));
+          (subst (λ (d : List Span). IsBelowBox (box_more old.store.box (start_of grid (made before r))) (Some d)) (sym starts) (more-low old.store.box (start grid before) (start_of grid (made before r)) holds.below));
     }
 
 pub record IsBuiltTo (grid : List ℕ) (items : List Item) (first i : ℕ) (begun net : NetState AnyCtc) : Type 0 where
   pub holds : IsNetOf grid (take i items) net
-  pub added : IsAdded (owners (drop first (take i items))) (constraints_from grid (take first items) (drop first (take i items))) begun net
+  pub added : IsAdded (owners_from (take first items) (drop first (take i items))) (constraints_from grid (take first items) (drop first (take i items))) begun net
 
 pub built-none : (grid : List ℕ) (items : List Item) (first : ℕ) (net : NetState AnyCtc) → IsNetOf grid (take first items) net → IsBuiltTo grid items first first net net
 built-none grid items first net holds =
     let none : drop first (take first items) ≡ [] = ap (λ (n : ℕ). drop first (take n items)) (sym (add-zero first)) ∙ drop-take first 0 items in record {
       holds = holds;
-      added = subst (λ (l : List Item). IsAdded (owners l) (constraints_from grid (take first items) l) net net) (sym none)
+      added = subst (λ (l : List Item). IsAdded (owners_from (take first items) l) (constraints_from grid (take first items) l) net net) (sym none)
           (added-none net);
     }
 
@@ -164,59 +133,48 @@ pub first-part : (first i : ℕ) (items : List Item) → first ≤ i → i ≤ l
 first-part first i items order inside = ap (λ (l : List Item). l ++ drop first (take i items)) (sym (take-take first i items order)) ∙ take-append-drop first (take i items)
 
 pub built-more : (grid : List ℕ) (items : List Item) (first i : ℕ) (d : Item) (begun old new : NetState AnyCtc) → first ≤ i → i < length items → IsBuiltTo grid items first i begun old
-    → IsAdded (made (get_or items i d)) (constraints_of old.store.shape (get_or items i d)) old new → IsBuiltTo grid items first (i + 1) begun new
+    → IsAdded (made (take i items) (get_or items i d)) (constraints_of grid (take i items) (get_or items i d)) old new → IsBuiltTo grid items first (i + 1) begun new
 built-more grid items first i d begun old new order inside built added =
     let x = get_or items i d in
     let longer = take_more items i d inside in
+    let from = take first items in
     let some = drop first (take i items) in
     let part : drop first (take (i + 1) items) ≡ some ++ x ∷ [] = ap (drop first) longer ∙ drop-append-le first (take i items) (x ∷ []) (omega (arith, order, length-take-le i items (omega (arith, inside)))) in
-    let before : take first items ++ some ≡ take i items = first-part first i items order (omega (arith, inside)) in
-    let cs : constraints_from grid (take first items) (some ++ x ∷ []) ≡ constraints_from grid (take first items) some ++ constraints_of (shape_by grid (take i items)) x =
-    constraints-append grid some (x ∷ []) (take first items) ∙ ap (λ (l : List Constraint). constraints_from grid (take first items) some ++ l)
-    (append-nil (constraints_of (shape_by grid (take first items ++ some)) x) ∙ ap (λ (l : List Item). constraints_of (shape_by grid l) x) before) in
-    let os : owners (some ++ x ∷ []) ≡ owners some ++ made x = flat_map-append made some (x ∷ []) ∙ ap (λ (l : List Owner). owners some ++ l) (append-nil (made x)) in record {
+    let before : from ++ some ≡ take i items = first-part first i items order (omega (arith, inside)) in
+    let cs : constraints_from grid from (some ++ x ∷ []) ≡ constraints_from grid from some ++ constraints_of grid (take i items) x =
+    constraints-append grid some (x ∷ []) from ∙ ap (λ (l : List Constraint). constraints_from grid from some ++ l)
+    (append-nil (constraints_of grid (from ++ some) x) ∙ ap (λ (l : List Item). constraints_of grid l x) before) in
+    let os : owners_from from (some ++ x ∷ []) ≡ owners_from from some ++ made (take i items) x =
+    owners-append some (x ∷ []) from ∙ ap (λ (l : List Owner). owners_from from some ++ l) (append-nil (made (from ++ some) x) ∙ ap (λ (l : List Item). made l x) before) in record {
       holds = subst (λ (l : List Item). IsNetOf grid l new) (sym longer) (added-holds grid (take i items) x old new built.holds added);
-      added = subst (λ (l : List Item). IsAdded (owners l) (constraints_from grid (take first items) l) begun new) (sym part)
-          (subst (λ (l : List Owner). IsAdded l (constraints_from grid (take first items) (some ++ x ∷ [])) begun new) (sym os)
-          (subst (λ (l : List Constraint). IsAdded (owners some ++ made x) l begun new) (sym cs)
-          (added-then (owners some) (made x) (constraints_from grid (take first items) some) (constraints_of (shape_by grid (take i items)) x) begun old new built.added
-          (subst (λ (s : Shape). IsAdded (made x) (constraints_of s x) old new) built.holds.shape added))));
+      added = subst (λ (l : List Item). IsAdded (owners_from from l) (constraints_from grid from l) begun new) (sym part)
+          (subst (λ (l : List Owner). IsAdded l (constraints_from grid from (some ++ x ∷ [])) begun new) (sym os)
+          (subst (λ (l : List Constraint). IsAdded (owners_from from some ++ made (take i items) x) l begun new) (sym cs)
+          (added-then (owners_from from some) (made (take i items) x) (constraints_from grid from some) (constraints_of grid (take i items) x) begun old new built.added added)));
     }
 
--- ---- what the next record asks of the net
+-- ---- the room that the next record asks of the net
 
-module _ (m : Mission) (is : IsMission m) (i : ℕ) (d : Item) (net : NetState AnyCtc) (inside : i < length m.items) (holds : IsNetOf m.cuts (take i m.items) net) where
-  abbrev x : Item
-  x = get_or m.items i d
-
-  pub next-suits : Suits net.store.shape (get_or m.items i d)
-  next-suits = record {
-    end = m.ticks;
-    before = take i m.items;
-    count = ap (λ (s : Shape). length s.signals) holds.shape ∙ signals-count m.cuts (take i m.items);
-    right = right-at m.ticks m.items [] i d is.right inside;
-    short = is.clock.few_ticks;
-  }
-
+module _ (m : Mission) (is : IsMission m) (i : ℕ) (x : Item) (net : NetState AnyCtc) (longer : take (i + 1) m.items ≡ take i m.items ++ x ∷ []) (holds : IsNetOf m.cuts (take i m.items) net) where
   all-cells : (shape_by m.cuts m.items).cells ≤ 2000000
   all-cells = let e = cells-count m.cuts m.items (omega (arith, is.clock.grid.slices)) in omega (arith, e, is.few.cells)
 
-  pub next-cells : (with_owners net.store.shape (made (get_or m.items i d))).cells ≤ 2000000
+  pub next-cells : (with_owners net.store.shape (made (take i m.items) x)).cells ≤ 2000000
   next-cells =
       let grows : Extends (shape_by m.cuts (take (i + 1) m.items)) (shape_by m.cuts m.items) =
       subst (λ (l : List Item). Extends (shape_by m.cuts (take (i + 1) m.items)) (shape_by m.cuts l)) (take-append-drop (i + 1) m.items) (shape-extends m.cuts (take (i + 1) m.items) (drop (i + 1) m.items)) in
-      let here : shape_by m.cuts (take (i + 1) m.items) ≡ with_owners net.store.shape (made x) =
-      ap (shape_by m.cuts) (take_more m.items i d inside) ∙ shape-snoc m.cuts (take i m.items) x ∙ ap (λ (s : Shape). with_owners s (made x)) (sym holds.shape) in
+      let here : shape_by m.cuts (take (i + 1) m.items) ≡ with_owners net.store.shape (made (take i m.items) x) =
+      ap (shape_by m.cuts) longer ∙ shape-snoc m.cuts (take i m.items) x ∙ ap (λ (s : Shape). with_owners s (made (take i m.items) x)) (sym holds.shape) in
       omega (arith, all-cells, grows.cells, ap (λ (s : Shape). s.cells) here)
 
   -- the constraints so far and those of the record, among all
-  so-far : map constraint_of net.contractors ++ constraints_of net.store.shape x ++ constraints_from m.cuts (take (i + 1) m.items) (drop (i + 1) m.items) ≡ constraints m.cuts m.items
+  so-far : map constraint_of net.contractors ++ constraints_of m.cuts (take i m.items) x ++ constraints_from m.cuts (take (i + 1) m.items) (drop (i + 1) m.items) ≡ constraints m.cuts m.items
   so-far =
       ap (λ (l : List Constraint). l ++ constraints_from m.cuts (take (i + 1) m.items) (drop (i + 1) m.items))
-      (ap₂ (λ (xs ys : List Constraint). xs ++ ys) holds.contractors (ap (λ (s : Shape). constraints_of s x) holds.shape) ∙ sym (constraints-snoc m.cuts (take i m.items) x) ∙ ap (constraints m.cuts) (sym (take_more m.items i d inside)))
+      (ap (λ (xs : List Constraint). xs ++ constraints_of m.cuts (take i m.items) x) holds.contractors ∙ sym (constraints-snoc m.cuts (take i m.items) x) ∙ ap (constraints m.cuts) (sym longer))
       ∙ sym (constraints-append m.cuts (take (i + 1) m.items) (drop (i + 1) m.items) []) ∙ ap (constraints m.cuts) (take-append-drop (i + 1) m.items)
 
-  pub next-few : length net.contractors + length (constraints_of net.store.shape (get_or m.items i d)) ≤ 4000000000
+  pub next-few : length net.contractors + length (constraints_of m.cuts (take i m.items) x) ≤ 4000000000
   next-few =
       let all = records-count m.cuts m.items [] in
       omega (
@@ -225,12 +183,12 @@ module _ (m : Mission) (is : IsMission m) (i : ℕ) (d : Item) (net : NetState A
         is.few.feet,
         is.few.records,
         ap length so-far,
-        length-append (map constraint_of net.contractors ++ constraints_of net.store.shape x) (constraints_from m.cuts (take (i + 1) m.items) (drop (i + 1) m.items)),
-        length-append (map constraint_of net.contractors) (constraints_of net.store.shape x),
+        length-append (map constraint_of net.contractors ++ constraints_of m.cuts (take i m.items) x) (constraints_from m.cuts (take (i + 1) m.items) (drop (i + 1) m.items)),
+        length-append (map constraint_of net.contractors) (constraints_of m.cuts (take i m.items) x),
         length-map net.contractors constraint_of,
       )
 
-  pub next-room : sum_by reads_of (map constraint_of net.contractors) + sum_by reads_of (constraints_of net.store.shape (get_or m.items i d)) ≤ 20000000
+  pub next-room : sum_by reads_of (map constraint_of net.contractors) + sum_by reads_of (constraints_of m.cuts (take i m.items) x) ≤ 20000000
   next-room =
       let all = records-reads m.cuts m.items [] in
       omega (
@@ -238,8 +196,8 @@ module _ (m : Mission) (is : IsMission m) (i : ℕ) (d : Item) (net : NetState A
         all,
         is.few.feet,
         ap (sum_by reads_of) so-far,
-        sum_by-append reads_of (map constraint_of net.contractors ++ constraints_of net.store.shape x) (constraints_from m.cuts (take (i + 1) m.items) (drop (i + 1) m.items)),
-        sum_by-append reads_of (map constraint_of net.contractors) (constraints_of net.store.shape x),
+        sum_by-append reads_of (map constraint_of net.contractors ++ constraints_of m.cuts (take i m.items) x) (constraints_from m.cuts (take (i + 1) m.items) (drop (i + 1) m.items)),
+        sum_by-append reads_of (map constraint_of net.contractors) (constraints_of m.cuts (take i m.items) x),
       )
 
 -- ---- what satisfies the records and lay in the box before lies in the box
@@ -253,23 +211,23 @@ more-below : (b : Option (List Span)) (q qs more : List Span) → IsBelowBox (So
 more-below None q qs more p r = absurd p
 more-below (Some xs) q qs more p r = IsBelow-both q xs qs more p r
 
-satisfies-split : (end : ℕ) (grid : List ℕ) (a : Assignment) (xs ys before : List Item) → SatisfiesFrom end grid a before (xs ++ ys) → SatisfiesFrom end grid a (before ++ xs) ys
-satisfies-split end grid a [] ys before h = subst (λ (b : List Item). SatisfiesFrom end grid a b ys) (sym (append-nil before)) h
-satisfies-split end grid a (r ∷ xs) ys before h = subst (λ (b : List Item). SatisfiesFrom end grid a b ys) (append_assoc before (r ∷ []) xs) (satisfies-split end grid a xs ys (before ++ r ∷ []) h.1)
+satisfies-split : (end : ℕ) (a : Assignment) (xs ys before : List Item) → SatisfiesFrom end a before (xs ++ ys) → SatisfiesFrom end a (before ++ xs) ys
+satisfies-split end a [] ys before h = subst (λ (b : List Item). SatisfiesFrom end a b ys) (sym (append-nil before)) h
+satisfies-split end a (r ∷ xs) ys before h = subst (λ (b : List Item). SatisfiesFrom end a b ys) (append_assoc before (r ∷ []) xs) (satisfies-split end a xs ys (before ++ r ∷ []) h.1)
 
-pub built-encloses : (grid : List ℕ) (xs ys : List Item) (a : Assignment) (old new : Option (List Span)) → IsGrid grid → new ≡ box_more old (start_of grid (owners ys)) → SatisfiesAll grid a (xs ++ ys)
+pub built-encloses : (grid : List ℕ) (xs ys : List Item) (a : Assignment) (old new : Option (List Span)) → IsGrid grid → new ≡ box_more old (start_of grid (owners_from xs ys)) → SatisfiesAll grid a (xs ++ ys)
     → IsBelowBox (Some (hull_box grid (owners xs) a)) old → IsBelowBox (Some (hull_box grid (owners (xs ++ ys)) a)) new
 built-encloses grid xs ys a old new is e says low =
     let t = shape_by grid xs in
     let same = shape-grid grid xs in
     let upto : (i : ℕ) → i < length t.grid → slice_index t.grid i ≤ last_tick grid =
     subst (λ (g : List ℕ). (i : ℕ) → i < length g → slice_index g i ≤ last_tick grid) (sym same) (last-greatest grid is.rising) in
-    let rest = satisfies-split (last_tick grid) grid a xs ys [] says in
-    let further : IsBelow (owners_hull t a (owners ys)) (start_of grid (owners ys)) =
-    subst (λ (g : List ℕ). IsBelow (owners_hull t a (owners ys)) (start_of g (owners ys))) same
-    (owners-below (last_tick grid) (owners ys) t a upto (satisfies-in-range (last_tick grid) grid a ys xs rest)) in
-    let split : hull_box grid (owners (xs ++ ys)) a ≡ hull_box grid (owners xs) a ++ owners_hull t a (owners ys) =
-    ap (λ (os : List Owner). hull_box grid os a) (flat_map-append made xs ys) ∙ owners_hull-append (owners xs) (owners ys) (no_shape grid) a in
+    let rest = satisfies-split (last_tick grid) a xs ys [] says in
+    let further : IsBelow (owners_hull t a (owners_from xs ys)) (start_of grid (owners_from xs ys)) =
+    subst (λ (g : List ℕ). IsBelow (owners_hull t a (owners_from xs ys)) (start_of g (owners_from xs ys))) same
+    (owners-below (last_tick grid) (owners_from xs ys) t a upto (satisfies-in-range (last_tick grid) grid a ys xs rest)) in
+    let split : hull_box grid (owners (xs ++ ys)) a ≡ hull_box grid (owners xs) a ++ owners_hull t a (owners_from xs ys) =
+    ap (λ (os : List Owner). hull_box grid os a) (owners-append xs ys []) ∙ owners_hull-append (owners xs) (owners_from xs ys) (no_shape grid) a in
     subst (λ (q : List Span). IsBelowBox (Some q) new) (sym split)
-    (subst (λ (b : Option (List Span)). IsBelowBox (Some (hull_box grid (owners xs) a ++ owners_hull t a (owners ys))) b) (sym e)
-    (more-below old (hull_box grid (owners xs) a) (owners_hull t a (owners ys)) (start_of grid (owners ys)) low further))
+    (subst (λ (b : Option (List Span)). IsBelowBox (Some (hull_box grid (owners xs) a ++ owners_hull t a (owners_from xs ys))) b) (sym e)
+    (more-below old (hull_box grid (owners xs) a) (owners_hull t a (owners_from xs ys)) (start_of grid (owners_from xs ys)) low further))

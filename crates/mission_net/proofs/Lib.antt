@@ -1,4 +1,5 @@
 pub mod Stable
+pub mod Shapes
 pub mod Counts
 pub mod Enclosing
 pub mod Reading

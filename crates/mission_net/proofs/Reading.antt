@@ -19,20 +19,20 @@ use Rattle.mission_net.specs.Constraints.{Constraint, SliceOf, DerivOf, BoundOf,
 use Rattle.mission_net.specs.declared.AnyCtc.{AnyCtc}
 use Rattle.mission_net.specs.Contractors.{constraint_of, any_scope}
 use Rattle.ctc_network.specs.Nets.{entries_of}
-use Rattle.mission_net.specs.Records.{made, owners, shape_by, start, constraints_of, constraints_from, constraints}
-use Rattle.mission_net.proofs.Enclosing.{shape-snoc, shape-grid}
+use Rattle.mission_net.specs.Records.{made, owners, owners_from, shape_by, start, constraints_of, constraints_from, constraints}
+use Rattle.mission_net.proofs.Shapes.{owners-append}
 
-pub start-append : (grid : List ℕ) (before rs : List Item) → start grid (before ++ rs) ≡ start grid before ++ start_of grid (owners rs)
-start-append grid before rs = ap (start_of grid) (flat_map-append made before rs) ∙ flat_map-append (declared_cells grid) (owners before) (owners rs)
+pub start-append : (grid : List ℕ) (before rs : List Item) → start grid (before ++ rs) ≡ start grid before ++ start_of grid (owners_from before rs)
+start-append grid before rs = ap (start_of grid) (owners-append before rs []) ∙ flat_map-append (declared_cells grid) (owners before) (owners_from before rs)
 
 pub constraints-append : (grid : List ℕ) (xs ys before : List Item) → constraints_from grid before (xs ++ ys) ≡ constraints_from grid before xs ++ constraints_from grid (before ++ xs) ys
 constraints-append grid [] ys before = ap (λ (l : List Item). constraints_from grid l ys) (sym (append-nil before))
 constraints-append grid (r ∷ xs) ys before =
-    ap (λ (l : List Constraint). constraints_of (shape_by grid before) r ++ l) (constraints-append grid xs ys (before ++ r ∷ []) ∙ ap (λ (l : List Item). constraints_from grid (before ++ r ∷ []) xs ++ constraints_from grid l ys) (append_assoc before (r ∷ []) xs))
-    ∙ sym (append_assoc (constraints_of (shape_by grid before) r) (constraints_from grid (before ++ r ∷ []) xs) (constraints_from grid (before ++ r ∷ xs) ys))
+    ap (λ (l : List Constraint). constraints_of grid before r ++ l) (constraints-append grid xs ys (before ++ r ∷ []) ∙ ap (λ (l : List Item). constraints_from grid (before ++ r ∷ []) xs ++ constraints_from grid l ys) (append_assoc before (r ∷ []) xs))
+    ∙ sym (append_assoc (constraints_of grid before r) (constraints_from grid (before ++ r ∷ []) xs) (constraints_from grid (before ++ r ∷ xs) ys))
 
-pub constraints-snoc : (grid : List ℕ) (before : List Item) (r : Item) → constraints grid (before ++ r ∷ []) ≡ constraints grid before ++ constraints_of (shape_by grid before) r
-constraints-snoc grid before r = constraints-append grid before (r ∷ []) [] ∙ ap (λ (l : List Constraint). constraints grid before ++ l) (append-nil (constraints_of (shape_by grid before) r))
+pub constraints-snoc : (grid : List ℕ) (before : List Item) (r : Item) → constraints grid (before ++ r ∷ []) ≡ constraints grid before ++ constraints_of grid before r
+constraints-snoc grid before r = constraints-append grid before (r ∷ []) [] ∙ ap (λ (l : List Constraint). constraints grid before ++ l) (append-nil (constraints_of grid before r))
 
 -- what a record says is right, by its place
 pub right-at : (end : ℕ) (xs before : List Item) (i : ℕ) (d : Item) → AreRightFrom end before xs → i < length xs → IsRight end (before ++ take i xs) (get_or xs i d)
@@ -67,30 +67,31 @@ shape-is grid items is few = shape-more (owners items) (no_shape grid) is few
 -- ---- the cells of the shape are those that the log counts
 
 -- the cells that one record takes
-cells-of_one : (r : Item) (s : Shape) → 1 ≤ length s.grid → (with_owners s (made r)).cells ≡ s.cells + (signals_made r * (2 * (length s.grid - 1) + 1) + variables_made r)
-cells-of_one Head s some = omega arith
-cells-of_one Note s some = omega arith
-cells-of_one (Signal name range) s some = omega (arith, some)
-cells-of_one (Variable name range) s some = omega arith
-cells-of_one (Deriv x rate) s some = omega arith
-cells-of_one (Bound x first last range) s some = omega arith
-cells-of_one (At x tick range) s some = omega arith
+cells-of_one : (before : List Item) (r : Item) (s : Shape) → 1 ≤ length s.grid → (with_owners s (made before r)).cells ≡ s.cells + (signals_made r * (2 * (length s.grid - 1) + 1) + variables_made r)
+cells-of_one before Head s some = omega arith
+cells-of_one before Note s some = omega arith
+cells-of_one before (Signal name range) s some = omega (arith, some)
+cells-of_one before (Variable name range) s some = omega arith
+cells-of_one before (Deriv x rate) s some = omega arith
+cells-of_one before (Bound x first last range) s some = omega arith
+cells-of_one before (At x tick range) s some = omega arith
 
 cells-step : (a b m n k c x y : ℕ) → a ≡ c + (m * k + x) → b ≡ a + (n * k + y) → b ≡ c + ((m + n) * k + (x + y))
 cells-step a b m n k c x y p q = omega (arith, p, q, add-mul m n k)
 
-cells-from : (items : List Item) (s : Shape) → 1 ≤ length s.grid → (with_owners s (owners items)).cells ≡ s.cells + (signals_in items * (2 * (length s.grid - 1) + 1) + variables_in items)
-cells-from [] s some = omega arith
-cells-from (r ∷ items) s some =
-    let t = with_owners s (made r) in
-    let same : t.grid ≡ s.grid = (owners-extend (made r) s).grid in
-    let rest = subst (λ (g : List ℕ). (with_owners t (owners items)).cells ≡ t.cells + (signals_in items * (2 * (length g - 1) + 1) + variables_in items)) same (cells-from items t (omega (arith, some, ap length same))) in
-    ap (λ (u : Shape). u.cells) (with_owners-append (made r) (owners items) s)
-    ∙ cells-step t.cells (with_owners t (owners items)).cells (signals_made r) (signals_in items) (2 * (length s.grid - 1) + 1) s.cells (variables_made r) (variables_in items) (cells-of_one r s some) rest
-    ∙ ap₂ (λ (m n : ℕ). s.cells + (m * (2 * (length s.grid - 1) + 1) + n)) (sym (sum_by-cons signals_made r items)) (sym (sum_by-cons variables_made r items))
+cells-from : (rs before : List Item) (s : Shape) → 1 ≤ length s.grid → (with_owners s (owners_from before rs)).cells ≡ s.cells + (signals_in rs * (2 * (length s.grid - 1) + 1) + variables_in rs)
+cells-from [] before s some = omega arith
+cells-from (r ∷ rs) before s some =
+    let t = with_owners s (made before r) in
+    let more = owners_from (before ++ r ∷ []) rs in
+    let same : t.grid ≡ s.grid = (owners-extend (made before r) s).grid in
+    let rest = subst (λ (g : List ℕ). (with_owners t more).cells ≡ t.cells + (signals_in rs * (2 * (length g - 1) + 1) + variables_in rs)) same (cells-from rs (before ++ r ∷ []) t (omega (arith, some, ap length same))) in
+    ap (λ (u : Shape). u.cells) (with_owners-append (made before r) more s)
+    ∙ cells-step t.cells (with_owners t more).cells (signals_made r) (signals_in rs) (2 * (length s.grid - 1) + 1) s.cells (variables_made r) (variables_in rs) (cells-of_one before r s some) rest
+    ∙ ap₂ (λ (m n : ℕ). s.cells + (m * (2 * (length s.grid - 1) + 1) + n)) (sym (sum_by-cons signals_made r rs)) (sym (sum_by-cons variables_made r rs))
 
 pub cells-count : (grid : List ℕ) (items : List Item) → 1 ≤ length grid → (shape_by grid items).cells ≡ cells_of grid (signals_in items) (variables_in items)
-cells-count grid items some = cells-from items (no_shape grid) some ∙ omega arith
+cells-count grid items some = cells-from items [] (no_shape grid) some ∙ omega arith
 
 -- ---- how many cells constraints read, and how many constraints there are
 
@@ -107,35 +108,33 @@ pub record IsSmall (cs : List Constraint) (foot : ℕ) : Type 0 where
   pub reads : sum_by reads_of cs ≤ foot
   pub few : length cs ≤ foot + 1
 
-record-small : (grid : List ℕ) (before : List Item) (s : Shape) (r : Item) → s.grid ≡ grid → IsSmall (constraints_of s r) (foot_of grid before r)
-record-small grid before s Head same = record { reads = omega arith; few = omega arith }
-record-small grid before s Note same = record { reads = omega arith; few = omega arith }
-record-small grid before s (Signal name range) same =
-    let all = each-reads (λ i. SliceOf (length s.signals) i) 3 (λ i. refl) (length s.grid - 1) in
-    let count = each-length (λ i. SliceOf (length s.signals) i) (length s.grid - 1) in
-    let e = ap length same in record { reads = omega (arith, all, e); few = omega (arith, count, e) }
-record-small grid before s (Variable name range) same = record { reads = omega arith; few = omega arith }
-record-small grid before s (Deriv x rate) same =
-    let all = each-reads (λ i. DerivOf x.0 rate.0 i) 4 (λ i. refl) (length s.grid - 1) in
-    let count = each-length (λ i. DerivOf x.0 rate.0 i) (length s.grid - 1) in
-    let e = ap length same in record { reads = omega (arith, all, e); few = omega (arith, count, e) }
-record-small grid before s (Bound x first last range) same = record { reads = omega arith; few = omega arith }
-record-small grid before s (At x tick range) same = record { reads = omega arith; few = omega arith }
+record-small : (grid : List ℕ) (before : List Item) (r : Item) → IsSmall (constraints_of grid before r) (foot_of grid before r)
+record-small grid before Head = record { reads = omega arith; few = omega arith }
+record-small grid before Note = record { reads = omega arith; few = omega arith }
+record-small grid before (Signal name range) =
+    let all = each-reads (λ i. SliceOf (signals_in before) i) 3 (λ i. refl) (length grid - 1) in
+    let count = each-length (λ i. SliceOf (signals_in before) i) (length grid - 1) in record { reads = omega (arith, all); few = omega (arith, count) }
+record-small grid before (Variable name range) = record { reads = omega arith; few = omega arith }
+record-small grid before (Deriv x rate) =
+    let all = each-reads (λ i. DerivOf x.0 rate.0 i) 4 (λ i. refl) (length grid - 1) in
+    let count = each-length (λ i. DerivOf x.0 rate.0 i) (length grid - 1) in record { reads = omega (arith, all); few = omega (arith, count) }
+record-small grid before (Bound x first last range) = record { reads = omega arith; few = omega arith }
+record-small grid before (At x tick range) = record { reads = omega arith; few = omega arith }
 
 -- the same of any number of records
 pub records-reads : (grid : List ℕ) (rs before : List Item) → sum_by reads_of (constraints_from grid before rs) ≤ feet_from grid before rs
 records-reads grid [] before = omega arith
 records-reads grid (r ∷ rs) before =
-    let one = record-small grid before (shape_by grid before) r (shape-grid grid before) in
+    let one = record-small grid before r in
     let rest = records-reads grid rs (before ++ r ∷ []) in
-    omega (arith, one.reads, rest, sum_by-append reads_of (constraints_of (shape_by grid before) r) (constraints_from grid (before ++ r ∷ []) rs))
+    omega (arith, one.reads, rest, sum_by-append reads_of (constraints_of grid before r) (constraints_from grid (before ++ r ∷ []) rs))
 
 pub records-count : (grid : List ℕ) (rs before : List Item) → length (constraints_from grid before rs) ≤ feet_from grid before rs + length rs
 records-count grid [] before = omega arith
 records-count grid (r ∷ rs) before =
-    let one = record-small grid before (shape_by grid before) r (shape-grid grid before) in
+    let one = record-small grid before r in
     let rest = records-count grid rs (before ++ r ∷ []) in
-    omega (arith, one.few, rest, length-append (constraints_of (shape_by grid before) r) (constraints_from grid (before ++ r ∷ []) rs))
+    omega (arith, one.few, rest, length-append (constraints_of grid before r) (constraints_from grid (before ++ r ∷ []) rs))
 
 -- what a net's contractors read, by their constraints
 pub net-reads : (s : Shape) (cs : List AnyCtc) → entries_of any_scope s cs ≡ sum_by reads_of (map constraint_of cs)

@@ -23,11 +23,12 @@ use Rattle.mission_log.specs.declared.item.Mission.{Mission}
 use Rattle.mission_log.specs.Valid.{AreRight, IsMission}
 use Rattle.mission_net.specs.Constraints.{Constraint, constraint_projections, constraint_scope, IsOf}
 use Rattle.mission_net.specs.ConstraintLaws.{constraint-reads_only, constraint-in_store, constraint-more, constraint-same_projections}
-use Rattle.mission_net.specs.Records.{owners, shape_by, start, constraints_from, constraints, projections, IsSection, IsEnclosure, Encloses}
+use Rattle.mission_net.specs.Records.{owners_from, shape_by, start, constraints_from, constraints, projections, IsSection, IsEnclosure, Encloses}
 use Rattle.mission_net.specs.declared.AnyCtc.{AnyCtc}
 use Rattle.mission_net.specs.Contractors.{constraint_of, any_projections}
 use Rattle.mission_net.specs.Building.{IsNetOf, IsAdded, IsSectionAs, IsSpentAs}
-use Rattle.mission_net.proofs.Enclosing.{shape-extends, shape-grid, records-of, section-encloses, enclosure-encloses}
+use Rattle.mission_net.proofs.Shapes.{shape-extends, shape-grid}
+use Rattle.mission_net.proofs.Enclosing.{records-of, section-encloses, enclosure-encloses}
 use Rattle.mission_net.proofs.Reading.{start-append, start-length, constraints-append, right-first, shape-is, cells-count}
 use Rattle.mission_net.proofs.Building.{more-low}
 
@@ -41,25 +42,25 @@ module _ (grid : List ℕ) (before more : List Item) (none : IsShape (no_shape g
   all : constraints grid (before ++ more) ≡ constraints grid before ++ constraints_from grid before more
   all = constraints-append grid before more []
 
-  pub records-keep : (b1 b2 : Option (List Span)) → IsEnclosure grid before b1 → IsBelowBox b2 (box_more b1 (start_of grid (owners more)))
-      → KeepsFixpoints (projections grid (before ++ more)) (box_more b1 (start_of grid (owners more))) b2 → IsEnclosure grid (before ++ more) b2
+  pub records-keep : (b1 b2 : Option (List Span)) → IsEnclosure grid before b1 → IsBelowBox b2 (box_more b1 (start_of grid (owners_from before more)))
+      → KeepsFixpoints (projections grid (before ++ more)) (box_more b1 (start_of grid (owners_from before more))) b2 → IsEnclosure grid (before ++ more) b2
   records-keep b1 b2 e1 low keeps = record {
-    below = IsBelowBox-trans b2 (box_more b1 (start_of grid (owners more))) (Some (start grid (before ++ more))) low
-        (subst (λ (d : List Span). IsBelowBox (box_more b1 (start_of grid (owners more))) (Some d)) (sym (start-append grid before more)) (more-low b1 (start grid before) (start_of grid (owners more)) e1.below));
+    below = IsBelowBox-trans b2 (box_more b1 (start_of grid (owners_from before more))) (Some (start grid (before ++ more))) low
+        (subst (λ (d : List Span). IsBelowBox (box_more b1 (start_of grid (owners_from before more))) (Some d)) (sym (start-append grid before more)) (more-low b1 (start grid before) (start_of grid (owners_from before more)) e1.below));
     keeps =
         subst (λ (cs : List Constraint). KeepsFixpoints (flat_map (constraint_projections (shape_by grid (before ++ more))) cs) (Some (start grid (before ++ more))) b2) (sym all)
         (subst (λ (d : List Span). KeepsFixpoints (flat_map (constraint_projections (shape_by grid (before ++ more))) (constraints grid before ++ constraints_from grid before more)) (Some d) b2) (sym (start-append grid before more))
         (section-keeps Constraint (λ c s. constraint_projections s c) (λ c s. constraint_scope s c) (λ c s b. IsOf s c)
         (λ c s. constraint-reads_only (λ xs. IsOf s c) c s) (λ c s xs ys same fits. fits) (λ c s a b low fits. fits) (λ c s b shape fits. constraint-in_store c s shape fits)
         (λ c s t b more grows fits. constraint-more c s t grows fits) (λ c s t b grows fits. constraint-same_projections c s t grows fits)
-        (shape_by grid before) (shape_by grid (before ++ more)) (constraints grid before) (constraints_from grid before more) (start grid before) (start_of grid (owners more))
-        (shape-is grid before none few) (shape-extends grid before more) (start-length grid before) (records-of (shape_by grid before) end grid before [] (Extends-refl (shape_by grid before)) (right-first end before more [] right))
+        (shape_by grid before) (shape_by grid (before ++ more)) (constraints grid before) (constraints_from grid before more) (start grid before) (start_of grid (owners_from before more))
+        (shape-is grid before none few) (shape-extends grid before more) (start-length grid before) (records-of grid (shape_by grid before) (shape-grid grid before) end before [] (Extends-refl (shape_by grid before)) (right-first end before more [] right))
         b1 b2 e1.below e1.keeps
-        (subst (λ (cs : List Constraint). KeepsFixpoints (flat_map (constraint_projections (shape_by grid (before ++ more))) cs) (box_more b1 (start_of grid (owners more))) b2) all keeps)));
+        (subst (λ (cs : List Constraint). KeepsFixpoints (flat_map (constraint_projections (shape_by grid (before ++ more))) cs) (box_more b1 (start_of grid (owners_from before more))) b2) all keeps)));
   }
 
   -- the greatest below the section before, with the new cells at their declared ranges, is the section
-  pub records-section : (b1 b2 : Option (List Span)) → IsEnclosure grid before b1 → IsGreatest (projections grid (before ++ more)) (box_more b1 (start_of grid (owners more))) b2 → IsSection grid (before ++ more) b2
+  pub records-section : (b1 b2 : Option (List Span)) → IsEnclosure grid before b1 → IsGreatest (projections grid (before ++ more)) (box_more b1 (start_of grid (owners_from before more))) b2 → IsSection grid (before ++ more) b2
   records-section b1 None e1 greatest = (records-keep b1 None e1 tt greatest).keeps
   records-section b1 (Some r) e1 greatest =
       let e = records-keep b1 (Some r) e1 greatest.1 greatest.2 in
@@ -78,7 +79,7 @@ still-some projections cs (Some xs) k h = refl
 
 -- what the answer of settling says of the section
 pub settled-section : (grid : List ℕ) (before more : List Item) → IsShape (no_shape grid) → (shape_by grid before).cells ≤ 2000000 → (end : ℕ) → AreRight end (before ++ more) → (b1 : Option (List Span)) (budget : ℕ) (net : NetState AnyCtc) (new : State) (answer : Settled)
-    → IsEnclosure grid before b1 → IsNetOf grid (before ++ more) net → net.store.box ≡ box_more b1 (start_of grid (owners more)) → SettlesAs (λ c. any_projections c net.store.shape) net.contractors budget net.store new answer → IsSectionAs grid (before ++ more) new.box answer
+    → IsEnclosure grid before b1 → IsNetOf grid (before ++ more) net → net.store.box ≡ box_more b1 (start_of grid (owners_from before more)) → SettlesAs (λ c. any_projections c net.store.shape) net.contractors budget net.store new answer → IsSectionAs grid (before ++ more) new.box answer
 settled-section grid before more none few end right b1 budget net new Fixpoint e1 holds box settles = (
   settles.0,
   records-section grid before more none few end right b1 new.box e1 (subst (λ (b : Option (List Span)). IsGreatest (projections grid (before ++ more)) b new.box) box
@@ -109,7 +110,7 @@ split (x ∷ items) (suc first) (suc last) h = ap (λ (l : List Item). x ∷ l) 
 
 module _ (grid : List ℕ) (items : List Item) (first last : ℕ) (order : first ≤ last) (none : IsShape (no_shape grid)) (few : (shape_by grid items).cells ≤ 2000000) (end : ℕ) (right : AreRight end items)
     (begun built new : NetState AnyCtc) (budget : ℕ) (answer : Settled) (e1 : IsEnclosure grid (take first items) begun.store.box) (holds : IsNetOf grid (take last items) built)
-    (extended : built.store.box ≡ box_more begun.store.box (start_of grid (owners (drop first (take last items))))) (contractors : new.contractors ≡ built.contractors) (shape : new.store.shape ≡ built.store.shape)
+    (extended : built.store.box ≡ box_more begun.store.box (start_of grid (owners_from (take first items) (drop first (take last items))))) (contractors : new.contractors ≡ built.contractors) (shape : new.store.shape ≡ built.store.shape)
     (settles : SettlesAs (λ c. any_projections c built.store.shape) built.contractors budget built.store new.store answer) where
   pub right-last : AreRight end (take last items)
   right-last = right-first end (take last items) (drop last items) [] (subst (AreRight end) (sym (take-append-drop last items)) right)
@@ -146,10 +147,10 @@ pub mission-cells : (m : Mission) → IsMission m → (shape_by m.cuts m.items).
 mission-cells m is = let e = cells-count m.cuts m.items (omega (arith, is.clock.grid.slices)) in omega (arith, e, is.few.cells)
 
 -- what building leaves of the box, over the mission's grid
-pub built-box : (grid : List ℕ) (items : List Item) (first : ℕ) (more : List Item) (cs : List Constraint) (begun built : NetState AnyCtc) → IsNetOf grid (take first items) begun → IsAdded (owners more) cs begun built
-    → built.store.box ≡ box_more begun.store.box (start_of grid (owners more))
+pub built-box : (grid : List ℕ) (items : List Item) (first : ℕ) (more : List Item) (cs : List Constraint) (begun built : NetState AnyCtc) → IsNetOf grid (take first items) begun
+    → IsAdded (owners_from (take first items) more) cs begun built → built.store.box ≡ box_more begun.store.box (start_of grid (owners_from (take first items) more))
 built-box grid items first more cs begun built holds added =
-    added.box ∙ ap (λ (g : List ℕ). box_more begun.store.box (start_of g (owners more))) (ap (λ (s : Shape). s.grid) holds.shape ∙ shape-grid grid (take first items))
+    added.box ∙ ap (λ (g : List ℕ). box_more begun.store.box (start_of g (owners_from (take first items) more))) (ap (λ (s : Shape). s.grid) holds.shape ∙ shape-grid grid (take first items))
 
 -- the cause of a spent answer, in the words of the records
 get-map : {X Y : Type 0} (f : X → Y) (xs : List X) (k : ℕ) (x : X) → slice_get xs k ≡ Some x → slice_get (map f xs) k ≡ Some (f x)

@@ -9,8 +9,6 @@ use Rattle.ctc_network.specs.Nets.{NetState}
 use Rattle.ctc_network.specs.declared.answers.Settled.{Settled}
 use Rattle.ctc_network.specs.declared.answers.Settled.TheVariants.{Fixpoint, Empty, Spent}
 use Rattle.mission_log.specs.declared.item.Item.{Item}
-use Rattle.mission_log.specs.Names.{signals_in}
-use Rattle.mission_log.specs.Valid.{IsRight}
 use Rattle.mission_net.specs.Constraints.{Constraint, constraint_projections}
 use Rattle.mission_net.specs.Records.{made, shape_by, start, constraints_of, constraints, IsSection, IsEnclosure}
 use Rattle.mission_net.specs.declared.AnyCtc.{AnyCtc}
@@ -28,14 +26,6 @@ pub record IsAdded (os : List Owner) (cs : List Constraint) (old new : NetState 
   pub box : new.store.box ≡ box_more old.store.box (start_of old.store.shape.grid os)
   pub contractors : map constraint_of new.contractors ≡ map constraint_of old.contractors ++ cs
   pub waiting : new.waiting ≡ old.waiting ++ replicate (length cs) true
-
--- what a record says is right for the signals that are there
-pub record Suits (s : Shape) (item : Item) : Type 0 where
-  pub end : ℕ
-  pub before : List Item
-  pub count : length s.signals ≡ signals_in before
-  pub right : IsRight end before item
-  pub short : end ≤ 100000
 
 -- What the answer of settling says of the box: it is that of the section, or it was spent and lost no common fixpoint.
 abbrev pub IsSectionAs : List ℕ → List Item → Option (List Span) → Settled → Type 0

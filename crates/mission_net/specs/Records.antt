@@ -10,23 +10,31 @@ use Rattle.tube_spec.specs.Assignment.{Assignment, value_at, number_of}
 use Rattle.tube_spec.specs.Owner.{Owner, SignalIn, VariableIn, shape_of, start_of, hull_box}
 use Rattle.mission_log.specs.declared.item.Item.{Item}
 use Rattle.mission_log.specs.declared.item.Item.TheVariants.{Head, Note, Signal, Variable, Deriv, Bound, At}
+use Rattle.mission_log.specs.Names.{signals_in, variables_in}
 use Rattle.ctc_deriv.specs.Bounds.{each_below}
 use Rattle.mission_net.specs.Constraints.{Constraint, SliceOf, DerivOf, BoundOf, constraint_projections}
+
+-- What a record makes, asks and says depends on the records before it alone.
 
 -- ---- what records make
 
 -- the signals and variables that a record makes: an `at` makes a time and a value
-abbrev pub made : Item → List Owner
-made Head = []
-made Note = []
-made (Signal name range) = SignalIn range ∷ []
-made (Variable name range) = VariableIn range ∷ []
-made (Deriv x rate) = []
-made (Bound x first last range) = []
-made (At x tick range) = VariableIn (point (pos tick)) ∷ VariableIn range ∷ []
+abbrev pub made : List Item → Item → List Owner
+made before Head = []
+made before Note = []
+made before (Signal name range) = SignalIn range ∷ []
+made before (Variable name range) = VariableIn range ∷ []
+made before (Deriv x rate) = []
+made before (Bound x first last range) = []
+made before (At x tick range) = VariableIn (point (pos tick)) ∷ VariableIn range ∷ []
 
+abbrev pub owners_from : List Item → List Item → List Owner
+owners_from before [] = []
+owners_from before (r ∷ rs) = made before r ++ owners_from (before ++ r ∷ []) rs
+
+-- all signals and variables that records make, those of an earlier record first
 abbrev pub owners : List Item → List Owner
-owners items = flat_map made items
+owners items = owners_from [] items
 
 -- the shape of what records make
 abbrev pub shape_by : List ℕ → List Item → Shape
@@ -38,19 +46,19 @@ start grid items = start_of grid (owners items)
 
 -- ---- what records ask
 
--- the constraints of a record, by the shape before it: one for each contractor that it stands for, in order
-abbrev pub constraints_of : Shape → Item → List Constraint
-constraints_of s Head = []
-constraints_of s Note = []
-constraints_of s (Signal name range) = each_below (λ i. SliceOf (length s.signals) i ∷ []) (length s.grid - 1)
-constraints_of s (Variable name range) = []
-constraints_of s (Deriv x rate) = each_below (λ i. DerivOf x.0 rate.0 i ∷ []) (length s.grid - 1)
-constraints_of s (Bound x first last range) = BoundOf x.0 first last range ∷ []
-constraints_of s (At x tick range) = BoundOf x.0 tick tick range ∷ []
+-- the constraints of a record: one for each contractor that it stands for, in order
+abbrev pub constraints_of : List ℕ → List Item → Item → List Constraint
+constraints_of grid before Head = []
+constraints_of grid before Note = []
+constraints_of grid before (Signal name range) = each_below (λ i. SliceOf (signals_in before) i ∷ []) (length grid - 1)
+constraints_of grid before (Variable name range) = []
+constraints_of grid before (Deriv x rate) = each_below (λ i. DerivOf x.0 rate.0 i ∷ []) (length grid - 1)
+constraints_of grid before (Bound x first last range) = BoundOf x.0 first last range ∷ []
+constraints_of grid before (At x tick range) = BoundOf x.0 tick tick range ∷ []
 
 abbrev pub constraints_from : List ℕ → List Item → List Item → List Constraint
 constraints_from grid before [] = []
-constraints_from grid before (r ∷ rs) = constraints_of (shape_by grid before) r ++ constraints_from grid (before ++ r ∷ []) rs
+constraints_from grid before (r ∷ rs) = constraints_of grid before r ++ constraints_from grid (before ++ r ∷ []) rs
 
 -- the constraints of all records, those of an earlier record first
 abbrev pub constraints : List ℕ → List Item → List Constraint
@@ -71,23 +79,24 @@ pub record IsEnclosure (grid : List ℕ) (items : List Item) (box : Option (List
 
 -- ---- what records say
 
--- What a record says of an assignment, by the shape before it, for the ticks 0 to end.
-abbrev pub Says : ℕ → Shape → Assignment → Item → Type 0
-Says end s a Head = Unit {0}
-Says end s a Note = Unit {0}
-Says end s a (Signal name range) = (k : ℕ) → k ≤ end → Holds range (value_at a (length s.signals) k)
-Says end s a (Variable name range) = Holds range (number_of a (length s.vars))
-Says end s a (Deriv x rate) = (k : ℕ) → k < end → value_at a x.0 (k + 1) ≡ value_at a x.0 k +ℤ value_at a rate.0 k
-Says end s a (Bound x first last range) = (k : ℕ) → first ≤ k → k ≤ last → Holds range (value_at a x.0 k)
-Says end s a (At x tick range) = (number_of a (length s.vars) ≡ pos tick) × Holds range (number_of a (length s.vars + 1)) × (number_of a (length s.vars + 1) ≡ value_at a x.0 tick)
+-- What a record says of an assignment, for the ticks 0 to end.
+abbrev pub Says : ℕ → Assignment → List Item → Item → Type 0
+Says end a before Head = Unit {0}
+Says end a before Note = Unit {0}
+Says end a before (Signal name range) = (k : ℕ) → k ≤ end → Holds range (value_at a (signals_in before) k)
+Says end a before (Variable name range) = Holds range (number_of a (variables_in before))
+Says end a before (Deriv x rate) = (k : ℕ) → k < end → value_at a x.0 (k + 1) ≡ value_at a x.0 k +ℤ value_at a rate.0 k
+Says end a before (Bound x first last range) = (k : ℕ) → first ≤ k → k ≤ last → Holds range (value_at a x.0 k)
+Says end a before (At x tick range) =
+    (number_of a (variables_in before) ≡ pos tick) × Holds range (number_of a (variables_in before + 1)) × (number_of a (variables_in before + 1) ≡ value_at a x.0 tick)
 
-abbrev pub SatisfiesFrom : ℕ → List ℕ → Assignment → List Item → List Item → Type 0
-SatisfiesFrom end grid a before [] = Unit {0}
-SatisfiesFrom end grid a before (r ∷ rs) = Says end (shape_by grid before) a r × SatisfiesFrom end grid a (before ++ r ∷ []) rs
+abbrev pub SatisfiesFrom : ℕ → Assignment → List Item → List Item → Type 0
+SatisfiesFrom end a before [] = Unit {0}
+SatisfiesFrom end a before (r ∷ rs) = Says end a before r × SatisfiesFrom end a (before ++ r ∷ []) rs
 
 -- an assignment satisfies the records where what each says holds of it
 abbrev pub SatisfiesAll : List ℕ → Assignment → List Item → Type 0
-SatisfiesAll grid a items = SatisfiesFrom (last_tick grid) grid a [] items
+SatisfiesAll grid a items = SatisfiesFrom (last_tick grid) a [] items
 
 -- Every assignment that satisfies the records lies in the box, and where the box is empty none satisfies them.
 abbrev pub Encloses : List ℕ → List Item → Option (List Span) → Type 0

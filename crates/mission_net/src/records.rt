@@ -5,11 +5,12 @@ ghost use Rattle.tube_spec.specs.Fixpoint.{IsFixpoint};
 ghost use Rattle.tube_spec.specs.Assignment.{Assignment};
 ghost use Rattle.tube_spec.specs.Owner.{SignalIn, VariableIn, with_owners, hull_box};
 ghost use Rattle.ctc_deriv.specs.Bounds.{each_below};
-ghost use Rattle.mission_log.specs.Valid.{IsMission};
+ghost use Rattle.mission_log.specs.Names.{signals_in};
+ghost use Rattle.mission_log.specs.Valid.{IsMission, IsRight};
 ghost use Rattle.mission_net.specs.Constraints.{SliceOf, DerivOf, IsOf, reads_of};
 ghost use Rattle.mission_net.specs.Contractors.{constraint_of};
-ghost use Rattle.mission_net.specs.Records.{made, owners, constraints_of, constraints_from, projections, SatisfiesAll};
-ghost use Rattle.mission_net.specs.Building.{IsNetOf, IsAdded, Suits};
+ghost use Rattle.mission_net.specs.Records.{made, owners, owners_from, constraints_of, constraints_from, projections, SatisfiesAll};
+ghost use Rattle.mission_net.specs.Building.{IsNetOf, IsAdded};
 
 use crate::AnyCtc;
 use ctc_deriv::{BoundCtc, DerivCtc, SliceCtc};
@@ -109,13 +110,14 @@ fn add_evaluated(net: &mut Net<AnyCtc>, tick: u32, range: Interval) -> Result<()
     add_variable(net, range)
 }
 
-/// Adds the cells and the contractors of a record.
-fn add_item(net: &mut Net<AnyCtc>, item: &Item) -> Result<(), NoMemory>
-    requires suits { Suits net.old.store.shape item.now }
-    requires cells { (with_owners net.old.store.shape (made item.now)).cells ≤ 2000000 }
-    requires few { length net.old.contractors + length (constraints_of net.old.store.shape item.now) ≤ 4000000000 }
-    requires room { sum_by reads_of (map constraint_of net.old.contractors) + sum_by reads_of (constraints_of net.old.store.shape item.now) ≤ 20000000 }
-    ensures added { OnOk result (IsAdded (made item.now) (constraints_of net.old.store.shape item.now) net.old net.new) }
+/// Adds the cells and the contractors of a record, after the records before it.
+fn add_item(net: &mut Net<AnyCtc>, before: &[Item], item: &Item) -> Result<(), NoMemory>
+    requires right { IsRight 100000 before.now item.now }
+    requires signals { length net.old.store.shape.signals ≡ signals_in before.now }
+    requires cells { (with_owners net.old.store.shape (made before.now item.now)).cells ≤ 2000000 }
+    requires few { length net.old.contractors + length (constraints_of net.old.store.shape.grid before.now item.now) ≤ 4000000000 }
+    requires room { sum_by reads_of (map constraint_of net.old.contractors) + sum_by reads_of (constraints_of net.old.store.shape.grid before.now item.now) ≤ 20000000 }
+    ensures added { OnOk result (IsAdded (made before.now item.now) (constraints_of net.old.store.shape.grid before.now item.now) net.old net.new) }
 {
     let slices = net.store().slices();
     match item {
@@ -158,7 +160,7 @@ pub fn build(
     // The net has exactly the cells and contractors of the records so far. Old cells are as they were and new ones at their declared
     // ranges; the new contractors wait, and of the old ones those that waited.
     ensures holds { OnOk result (IsNetOf mission.now.cuts (take last mission.now.items) net.new) }
-    ensures added { OnOk result (IsAdded (owners (drop first (take last mission.now.items))) (constraints_from mission.now.cuts (take first mission.now.items) (drop first (take last mission.now.items))) net.old net.new) }
+    ensures added { OnOk result (IsAdded (owners_from (take first mission.now.items) (drop first (take last mission.now.items))) (constraints_from mission.now.cuts (take first mission.now.items) (drop first (take last mission.now.items))) net.old net.new) }
 
     // Each assignment that satisfies the records so far and lay in the box before lies in it, and its hull is a fixpoint of them.
     ensures encloses { OnOk result ((a : Assignment) → SatisfiesAll mission.now.cuts a (take last mission.now.items)
@@ -169,7 +171,7 @@ pub fn build(
 {
     let items = mission.items.as_slice();
     for i in first..last {
-        add_item(net, &items[i])?;
+        add_item(net, &items[..i], &items[i])?;
     }
     Ok(())
 }

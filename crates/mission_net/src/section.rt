@@ -2,7 +2,7 @@ ghost use Rattle.std.specs.Prelude.{◌≡◌, ◌+◌, ◌≤◌, ℕ, List, If
 ghost use Rattle.tube_spec.specs.Box.{box_more, measure_of};
 ghost use Rattle.tube_spec.specs.Owner.{start_of};
 ghost use Rattle.mission_log.specs.Valid.{IsMission};
-ghost use Rattle.mission_net.specs.Records.{owners, IsEnclosure, Encloses};
+ghost use Rattle.mission_net.specs.Records.{owners_from, IsEnclosure, Encloses};
 ghost use Rattle.mission_net.specs.Building.{IsNetOf, IsSectionAs, IsSpentAs};
 
 use crate::AnyCtc;
@@ -52,7 +52,7 @@ pub fn next_section<L: Ledger>(
 
     // Nobody waits at a fixpoint, and the budget is spent only with its cause.
     ensures resting { IfOk result (λ end. end.answer ≡ Settled.Fixpoint → All IsFalse net.new.waiting) }
-    ensures began { IfOk result (λ end. end.began ≡ measure_of (box_more net.old.store.box (start_of mission.now.cuts (owners (drop first (take last mission.now.items)))))) }
+    ensures began { IfOk result (λ end. end.began ≡ measure_of (box_more net.old.store.box (start_of mission.now.cuts (owners_from (take first mission.now.items) (drop first (take last mission.now.items)))))) }
     ensures spent { IfOk result (λ end. IsSpentAs mission.now.cuts (take last mission.now.items) net.new.store.box end.began budget end.answer) }
 {
     build(mission, first, last, net)?;
