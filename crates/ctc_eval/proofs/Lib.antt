@@ -1,0 +1,5 @@
+pub mod Hulls
+pub mod Places
+pub mod Sweeping
+pub mod Stable
+mod Examples

@@ -1,0 +1,330 @@
+ghost use Rattle.std.specs.Prelude.{◌≡◌, ◌+◌, ◌<◌, ◌≤◌, IsSome, IfSome, length, slice_index};
+ghost use Rattle.tube_spec.specs.Grid.{last_tick};
+ghost use Rattle.tube_spec.specs.Narrowing.{narrowing_of};
+ghost use Rattle.ctc_core.specs.Given.{projection_at, narrowing_given};
+ghost use Rattle.ctc_eval.specs.Clock.{ticks_of, cells_of};
+ghost use Rattle.ctc_eval.specs.Near.{near_of, places_of};
+ghost use Rattle.ctc_eval.specs.Evals.{EvalFits, IsOfShape, cells_near, eval_projections, projection_of, rate_of, time_of, value_hull, time_hull, gate_narrowing, reached_hull};
+
+use super::clock::{Ticks, ticks_in};
+use super::near::{Near, first, gates, near_in, places};
+use super::readings::variable;
+use super::sweep::Sweep;
+use ctc_core::{Contractor, Formulas, Given, Revised, revise_by_formulas, still_by_formulas};
+use int_interval::Interval;
+use std::sync::ledger::Ledger;
+use step_count::Steps;
+use tube_store::{CellId, SignalId, Store, VarId};
+
+/// A variable `z` is the value of a signal `x` at the tick that a variable `t` is; with or without the rate of `x`.
+///
+/// The time `t` lies in its declared range, and so each formula cuts it to that range. A store fits whose signals and variables it names.
+#[derive(Clone, Copy, Debug, PartialEq, Eq)]
+pub struct EvalCtc {
+    /// The signal.
+    pub x: SignalId,
+    /// The signal that is its rate, if it has one.
+    pub rate: Option<SignalId>,
+    /// The time, in ticks.
+    pub t: VarId,
+    /// The value, in the unit of the signal.
+    pub z: VarId,
+    /// The declared range of the time.
+    pub declared: Interval,
+}
+
+// What a projection holds: the value, the time, the gate with a number where the time is at it, or that gate by the rate.
+#[derive(Clone, Copy)]
+enum Held {
+    Value,
+    Time,
+    Gate(u32),
+    Reached(SignalId, u32),
+}
+
+// A hull as what a formula gives.
+fn given_of(hull: Option<Interval>) -> Given
+    ensures { narrowing_given result ≡ narrowing_of hull }
+{
+    match hull {
+        Some(hull) => Given::Within(hull),
+        None => Given::Nothing,
+    }
+}
+
+impl EvalCtc {
+    /// The contractor of the value `z` of the signal `x` at the time `t`, whose declared range is `declared`; with the rate of `x`, if it has one.
+    pub fn new(
+        x: SignalId,
+        rate: Option<SignalId>,
+        t: VarId,
+        z: VarId,
+        declared: Interval,
+    ) -> EvalCtc
+        ensures { result ≡ record { x = x; rate = rate; t = t; z = z; declared = declared } }
+    {
+        EvalCtc {
+            x,
+            rate,
+            t,
+            z,
+            declared,
+        }
+    }
+
+    // The slices that share a tick with the declared range of the time.
+    fn near(&self, store: &Store) -> Option<Near>
+        ensures value { result ≡ near_of store.now.shape.grid self.now.declared }
+        ensures order { IfSome result (λ near. near.first ≤ near.last) }
+        ensures among { IfSome result (λ near. near.last + 1 < length store.now.shape.grid) }
+        ensures few { IfSome result (λ near. near.last ≤ 100000) }
+    {
+        store.known();
+        near_in(store.grid(), self.declared)
+    }
+
+    // The ticks that the time may be at.
+    fn ticks(&self, store: &Store) -> Option<Ticks>
+        requires time { self.now.t.0 < length store.now.shape.vars }
+        requires filled { IsSome store.now.box }
+        ensures value { let s = store.now.shape in result ≡ ticks_of s.grid (time_of s self.now.t.0 self.now.declared (cells_of store.now.box)) }
+        ensures order { IfSome result (λ ticks. ticks.first ≤ ticks.last) }
+        ensures clock { IfSome result (λ ticks. ticks.last ≤ last_tick store.now.shape.grid) }
+    {
+        let time = variable(store, self.t).meet(self.declared)?;
+        ticks_in(store.grid(), time)
+    }
+
+    // The signal and the value.
+    fn sweep(&self) -> Sweep
+        ensures { result ≡ record { x = self.now.x; z = self.now.z } }
+    {
+        Sweep {
+            x: self.x,
+            z: self.z,
+        }
+    }
+
+    // What the projection with a number holds.
+    fn held(&self, store: &Store, i: u32) -> Held
+        requires fits { EvalFits store.now.shape self.now.x.0 (rate_of self.now.rate) self.now.t.0 self.now.z.0 }
+        requires below { let c = self.now in i < length (eval_projections store.now.shape c.x.0 (rate_of c.rate) c.t.0 c.z.0 c.declared) }
+        ensures projection { let c = self.now in projection_at (eval_projections store.now.shape c.x.0 (rate_of c.rate) c.t.0 c.z.0 c.declared) i ≡ projection_of store.now.shape c.x.0 c.t.0 c.z.0 c.declared result }
+        ensures named { IsOfShape store.now.shape result }
+    {
+        if i == 0 {
+            return Held::Value;
+        }
+        if i == 1 {
+            return Held::Time;
+        }
+        let near = self.near(store);
+        let gate = i - 2;
+        let count = gates(near);
+        match self.rate {
+            Some(rate) => {
+                if gate < count {
+                    Held::Gate(first(near) + gate)
+                } else {
+                    Held::Reached(rate, first(near) + (gate - count))
+                }
+            }
+            None => Held::Gate(first(near) + gate),
+        }
+    }
+
+    // What the formula of the value gives.
+    fn value_given(&self, store: &Store) -> Given
+        requires fits { EvalFits store.now.shape self.now.x.0 (rate_of self.now.rate) self.now.t.0 self.now.z.0 }
+        requires filled { IsSome store.now.box }
+        ensures { narrowing_given result ≡ narrowing_of (value_hull store.now.shape self.now.x.0 self.now.t.0 self.now.declared (cells_of store.now.box)) }
+    {
+        match self.ticks(store) {
+            Some(ticks) => Given::Within(store.over_ticks(self.x, ticks.first, ticks.last)),
+            None => Given::Nothing,
+        }
+    }
+
+    // What the formula of the time gives.
+    fn time_given(&self, store: &Store) -> Given
+        requires fits { EvalFits store.now.shape self.now.x.0 (rate_of self.now.rate) self.now.t.0 self.now.z.0 }
+        requires filled { IsSome store.now.box }
+        ensures { narrowing_given result ≡ narrowing_of (time_hull store.now.shape self.now.x.0 self.now.t.0 self.now.z.0 self.now.declared (cells_of store.now.box)) }
+    {
+        match self.ticks(store) {
+            Some(ticks) => given_of(self.sweep().met(store, ticks)),
+            None => Given::Nothing,
+        }
+    }
+
+    // What the formula of a gate gives where the time may be at its tick alone.
+    fn gate_given(&self, store: &Store, gate: u32) -> Given
+        requires fits { EvalFits store.now.shape self.now.x.0 (rate_of self.now.rate) self.now.t.0 self.now.z.0 }
+        requires gate { gate < length store.now.shape.grid }
+        requires filled { IsSome store.now.box }
+        ensures { narrowing_given result ≡ gate_narrowing store.now.shape self.now.t.0 self.now.z.0 self.now.declared gate (cells_of store.now.box) }
+    {
+        let tick = store.grid().boundary(gate);
+        match self.ticks(store) {
+            Some(ticks) => {
+                if ticks.first == tick && ticks.last == tick {
+                    Given::Within(variable(store, self.z))
+                } else {
+                    Given::Whole
+                }
+            }
+            None => Given::Nothing,
+        }
+    }
+
+    // What the formula of a gate gives by the rate.
+    fn reached_given(&self, store: &Store, rate: SignalId, gate: u32) -> Given
+        requires fits { EvalFits store.now.shape self.now.x.0 (rate_of self.now.rate) self.now.t.0 self.now.z.0 }
+        requires rate { rate.0 < length store.now.shape.signals }
+        requires gate { gate < length store.now.shape.grid }
+        requires filled { IsSome store.now.box }
+        ensures { narrowing_given result ≡ narrowing_of (reached_hull store.now.shape self.now.x.0 rate.0 self.now.t.0 self.now.z.0 self.now.declared gate (cells_of store.now.box)) }
+    {
+        let tick = store.grid().boundary(gate);
+        match self.ticks(store) {
+            Some(ticks) => given_of(self.sweep().reached(store, rate, ticks, tick)),
+            None => Given::Nothing,
+        }
+    }
+
+    // How many cells of one signal the formulas read.
+    fn places(&self, store: &Store) -> u32
+        ensures value { result ≡ length (places_of (near_of store.now.shape.grid self.now.declared)) }
+        ensures few { result ≤ 200003 }
+    {
+        places(self.near(store))
+    }
+
+    // The cell of a signal with a number of those that the formulas read of it.
+    fn cell(&self, store: &Store, signal: SignalId, i: u32) -> CellId
+        requires signal { signal.0 < length store.now.shape.signals }
+        requires below { i < length (cells_near store.now.shape self.now.declared signal.0) }
+        ensures { result.0 ≡ slice_index (cells_near store.now.shape self.now.declared signal.0) i }
+    {
+        store.known();
+        let start = store.gate(signal, 0);
+        CellId(start.0 + (2 * first(self.near(store)) + i))
+    }
+}
+
+impl Formulas for EvalCtc {
+    ghost use Rattle.ctc_eval.specs.Evals.{EvalFits, eval_projections, rate_of};
+    ghost use Rattle.ctc_eval.specs.EvalLaws.{eval-monotone, eval-in_store};
+
+    ghost projections = { λ c s. eval_projections s c.x.0 (rate_of c.rate) c.t.0 c.z.0 c.declared };
+
+    ghost fits = { λ c s b. EvalFits s c.x.0 (rate_of c.rate) c.t.0 c.z.0 };
+
+    ghost monotone = { λ c s. eval-monotone (λ xs. EvalFits s c.x.0 (rate_of c.rate) c.t.0 c.z.0) s c.x.0 (rate_of c.rate) c.t.0 c.z.0 c.declared };
+
+    ghost fits_below = { λ c s a b low fits. fits };
+
+    ghost in_store = { λ c s b shape fits. (eval-in_store s c.x.0 (rate_of c.rate) c.t.0 c.z.0 c.declared shape fits).1 };
+
+    fn count(&self, store: &Store) -> u32 {
+        let gates = gates(self.near(store));
+        match self.rate {
+            Some(_) => 2 + (gates + gates),
+            None => 2 + gates,
+        }
+    }
+
+    fn target(&self, store: &Store, i: u32) -> CellId {
+        store.known();
+        match self.held(store, i) {
+            Held::Value => store.var(self.z),
+            Held::Time => store.var(self.t),
+            Held::Gate(gate) => store.gate(self.x, gate),
+            Held::Reached(_, gate) => store.gate(self.x, gate),
+        }
+    }
+
+    fn given(&self, store: &Store, i: u32) -> Given {
+        match self.held(store, i) {
+            Held::Value => self.value_given(store),
+            Held::Time => self.time_given(store),
+            Held::Gate(gate) => self.gate_given(store, gate),
+            Held::Reached(rate, gate) => self.reached_given(store, rate, gate),
+        }
+    }
+}
+
+impl Contractor for EvalCtc {
+    ghost use Rattle.ctc_eval.specs.Evals.{EvalFits, eval_projections, eval_scope, rate_of};
+    ghost use Rattle.ctc_eval.specs.EvalLaws.{eval-monotone, eval-reads_only, eval-in_store, eval-fits_more, eval-same_projections, eval-same_scope};
+
+    ghost projections = { λ c s. eval_projections s c.x.0 (rate_of c.rate) c.t.0 c.z.0 c.declared };
+
+    ghost scope = { λ c s. eval_scope s c.x.0 (rate_of c.rate) c.t.0 c.z.0 c.declared };
+
+    ghost fits = { λ c s b. EvalFits s c.x.0 (rate_of c.rate) c.t.0 c.z.0 };
+
+    ghost monotone = { λ c s. eval-monotone (λ xs. EvalFits s c.x.0 (rate_of c.rate) c.t.0 c.z.0) s c.x.0 (rate_of c.rate) c.t.0 c.z.0 c.declared };
+
+    ghost reads_only = { λ c s. eval-reads_only s c.x.0 (rate_of c.rate) c.t.0 c.z.0 c.declared };
+
+    ghost fits_local = { λ c s xs ys same fits. fits };
+
+    ghost fits_below = { λ c s a b low fits. fits };
+
+    ghost in_store = { λ c s b shape fits. eval-in_store s c.x.0 (rate_of c.rate) c.t.0 c.z.0 c.declared shape fits };
+
+    ghost fits_more = { λ c s t b more grows fits. eval-fits_more s t c.x.0 (rate_of c.rate) c.t.0 c.z.0 grows fits };
+
+    ghost same_projections = { λ c s t b grows fits. eval-same_projections s t c.x.0 (rate_of c.rate) c.t.0 c.z.0 c.declared grows fits };
+
+    ghost same_scope = { λ c s t b grows fits. eval-same_scope s t c.x.0 (rate_of c.rate) c.t.0 c.z.0 c.declared grows fits };
+
+    fn reads(&self, store: &Store) -> u32 {
+        let places = self.places(store);
+        match self.rate {
+            Some(_) => 2 + (places + places),
+            None => 2 + places,
+        }
+    }
+
+    fn read(&self, store: &Store, i: u32) -> CellId {
+        store.known();
+        if i == 0 {
+            return store.var(self.t);
+        }
+        if i == 1 {
+            return store.var(self.z);
+        }
+        let places = self.places(store);
+        let place = i - 2;
+        match self.rate {
+            Some(rate) => {
+                if place < places {
+                    self.cell(store, self.x, place)
+                } else {
+                    self.cell(store, rate, place - places)
+                }
+            }
+            None => self.cell(store, self.x, place),
+        }
+    }
+
+    fn writes(&self, store: &Store) -> u32 {
+        self.count(store)
+    }
+
+    fn written(&self, store: &Store, i: u32) -> CellId {
+        self.target(store, i)
+    }
+
+    fn revise<L: Ledger>(&self, store: &mut Store, steps: &mut Steps<L>) -> Revised {
+        steps.tick();
+        revise_by_formulas(self, store)
+    }
+
+    fn still<L: Ledger>(&self, store: &Store, steps: &mut Steps<L>) -> bool {
+        steps.tick();
+        still_by_formulas(self, store)
+    }
+}
