@@ -1,0 +1,4 @@
+pub mod Points
+pub mod Distances
+pub mod PointLaws
+pub mod DistLaws
