@@ -22,7 +22,7 @@ use Rattle.mission_log.specs.declared.item.Mission.{Mission}
 use Rattle.mission_log.specs.Names.{signals_in}
 use Rattle.mission_log.specs.Room.{feet_of}
 use Rattle.mission_log.specs.Valid.{IsMission, IsRight, AreRight}
-use Rattle.mission_net.specs.Constraints.{Constraint, SliceOf, DerivOf, reads_of}
+use Rattle.mission_net.specs.Constraints.{Constraint, reads_of, reads_in}
 use Rattle.mission_net.specs.Records.{made, owners, owners_from, shape_by, start, constraints_of, constraints_from, constraints, SatisfiesFrom, SatisfiesAll}
 use Rattle.mission_net.specs.declared.AnyCtc.{AnyCtc}
 use Rattle.mission_net.specs.Contractors.{constraint_of}
@@ -92,17 +92,17 @@ row-few f i a b p =
     let e = ap length p.contractors in
     omega (arith, e, length-append (map constraint_of a.contractors) (each_below (λ i. f i ∷ []) i), each-length f i, length-map a.contractors constraint_of, length-map b.contractors constraint_of)
 
-pub row-reads : (f : ℕ → Constraint) (m : ℕ) → ((i : ℕ) → reads_of (f i) ≡ m) → (i : ℕ) (a b : NetState AnyCtc) → IsAdded [] (each_below (λ i. f i ∷ []) i) a b
-    → sum_by reads_of (map constraint_of b.contractors) ≡ sum_by reads_of (map constraint_of a.contractors) + m * i
-row-reads f m h i a b p =
-    ap (sum_by reads_of) p.contractors ∙ sum_by-append reads_of (map constraint_of a.contractors) (each_below (λ i. f i ∷ []) i) ∙ ap (λ (n : ℕ). sum_by reads_of (map constraint_of a.contractors) + n) (each-reads f m h i)
+pub row-reads : (grid : List ℕ) (f : ℕ → Constraint) (m : ℕ) → ((i : ℕ) → reads_of grid (f i) ≡ m) → (i : ℕ) (a b : NetState AnyCtc) → IsAdded [] (each_below (λ i. f i ∷ []) i) a b
+    → reads_in grid (map constraint_of b.contractors) ≡ reads_in grid (map constraint_of a.contractors) + m * i
+row-reads grid f m h i a b p =
+    ap (reads_in grid) p.contractors ∙ sum_by-append (reads_of grid) (map constraint_of a.contractors) (each_below (λ i. f i ∷ []) i) ∙ ap (λ (n : ℕ). reads_in grid (map constraint_of a.contractors) + n) (each-reads grid f m h i)
 
 -- cells alone leave the contractors as they were
 pub none-few : (os : List Owner) (a b : NetState AnyCtc) → IsAdded os [] a b → length b.contractors ≡ length a.contractors
 none-few os a b p = let e = ap length (p.contractors ∙ append-nil (map constraint_of a.contractors)) in omega (arith, e, length-map a.contractors constraint_of, length-map b.contractors constraint_of)
 
-pub none-reads : (os : List Owner) (a b : NetState AnyCtc) → IsAdded os [] a b → sum_by reads_of (map constraint_of b.contractors) ≡ sum_by reads_of (map constraint_of a.contractors)
-none-reads os a b p = ap (sum_by reads_of) (p.contractors ∙ append-nil (map constraint_of a.contractors))
+pub none-reads : (grid : List ℕ) (os : List Owner) (a b : NetState AnyCtc) → IsAdded os [] a b → reads_in grid (map constraint_of b.contractors) ≡ reads_in grid (map constraint_of a.contractors)
+none-reads grid os a b p = ap (reads_in grid) (p.contractors ∙ append-nil (map constraint_of a.contractors))
 
 -- ---- the net of the records so far, and what was added to it
 
@@ -188,16 +188,16 @@ module _ (m : Mission) (is : IsMission m) (i : ℕ) (x : Item) (net : NetState A
         length-map net.contractors constraint_of,
       )
 
-  pub next-room : sum_by reads_of (map constraint_of net.contractors) + sum_by reads_of (constraints_of m.cuts (take i m.items) x) ≤ 20000000
+  pub next-room : reads_in m.cuts (map constraint_of net.contractors) + reads_in m.cuts (constraints_of m.cuts (take i m.items) x) ≤ 20000000
   next-room =
       let all = records-reads m.cuts m.items [] in
       omega (
         arith,
         all,
         is.few.feet,
-        ap (sum_by reads_of) so-far,
-        sum_by-append reads_of (map constraint_of net.contractors ++ constraints_of m.cuts (take i m.items) x) (constraints_from m.cuts (take (i + 1) m.items) (drop (i + 1) m.items)),
-        sum_by-append reads_of (map constraint_of net.contractors) (constraints_of m.cuts (take i m.items) x),
+        ap (reads_in m.cuts) so-far,
+        sum_by-append (reads_of m.cuts) (map constraint_of net.contractors ++ constraints_of m.cuts (take i m.items) x) (constraints_from m.cuts (take (i + 1) m.items) (drop (i + 1) m.items)),
+        sum_by-append (reads_of m.cuts) (map constraint_of net.contractors) (constraints_of m.cuts (take i m.items) x),
       )
 
 -- ---- what satisfies the records and lay in the box before lies in the box

@@ -15,7 +15,12 @@ use Rattle.mission_log.specs.Names.{signals_made, signals_in, variables_made, va
 use Rattle.mission_log.specs.Room.{cells_of, foot_of, feet_from, feet_of, slices_in}
 use Rattle.mission_log.specs.Valid.{IsRight, AreRightFrom}
 use Rattle.ctc_deriv.specs.Bounds.{each_below}
-use Rattle.mission_net.specs.Constraints.{Constraint, SliceOf, DerivOf, BoundOf, constraint_scope, reads_of}
+use Rattle.ctc_eval.specs.Near.{near_of, places_of}
+use Rattle.ctc_eval.specs.Evals.{cells_near, rate_scope}
+use Rattle.ctc_delay.specs.Places.{place_count, signal_cells}
+use Rattle.ctc_delay.specs.DelayLaws.{length-each_place}
+use Rattle.ctc_dist.specs.Points.{cells_of}
+use Rattle.mission_net.specs.Constraints.{Constraint, SliceOf, DerivOf, BoundOf, EvalOf, DelayToOf, DelayFromOf, DelayShiftOf, DistOf, ConstellOf, constraint_scope, reads_near, rate_reads, reads_of, reads_in}
 use Rattle.mission_net.specs.declared.AnyCtc.{AnyCtc}
 use Rattle.mission_net.specs.Contractors.{constraint_of, any_scope}
 use Rattle.ctc_network.specs.Nets.{entries_of}
@@ -95,39 +100,39 @@ cells-count grid items some = cells-from items [] (no_shape grid) some ∙ omega
 
 -- ---- how many cells constraints read, and how many constraints there are
 
-pub each-reads : (f : ℕ → Constraint) (m : ℕ) → ((i : ℕ) → reads_of (f i) ≡ m) → (n : ℕ) → sum_by reads_of (each_below (λ i. f i ∷ []) n) ≡ m * n
-each-reads f m h zero = omega arith
-each-reads f m h (suc n) = sum_by_push reads_of (each_below (λ i. f i ∷ []) n) (f n) ∙ omega (arith, each-reads f m h n, h n)
+pub each-reads : (grid : List ℕ) (f : ℕ → Constraint) (m : ℕ) → ((i : ℕ) → reads_of grid (f i) ≡ m) → (n : ℕ) → reads_in grid (each_below (λ i. f i ∷ []) n) ≡ m * n
+each-reads grid f m h zero = omega arith
+each-reads grid f m h (suc n) = sum_by_push (reads_of grid) (each_below (λ i. f i ∷ []) n) (f n) ∙ omega (arith, each-reads grid f m h n, h n)
 
 pub each-length : {X : Type 0} (f : ℕ → X) (n : ℕ) → length (each_below (λ i. f i ∷ []) n) ≡ n
 each-length f zero = refl
 each-length f (suc n) = length-append (each_below (λ i. f i ∷ []) n) (f n ∷ []) ∙ omega (arith, each-length f n)
 
 -- what a record's constraints read is within its foot, and there is at most one more of them
-pub record IsSmall (cs : List Constraint) (foot : ℕ) : Type 0 where
-  pub reads : sum_by reads_of cs ≤ foot
+pub record IsSmall (grid : List ℕ) (cs : List Constraint) (foot : ℕ) : Type 0 where
+  pub reads : reads_in grid cs ≤ foot
   pub few : length cs ≤ foot + 1
 
-record-small : (grid : List ℕ) (before : List Item) (r : Item) → IsSmall (constraints_of grid before r) (foot_of grid before r)
+record-small : (grid : List ℕ) (before : List Item) (r : Item) → IsSmall grid (constraints_of grid before r) (foot_of grid before r)
 record-small grid before Head = record { reads = omega arith; few = omega arith }
 record-small grid before Note = record { reads = omega arith; few = omega arith }
 record-small grid before (Signal name range) =
-    let all = each-reads (λ i. SliceOf (signals_in before) i) 3 (λ i. refl) (length grid - 1) in
+    let all = each-reads grid (λ i. SliceOf (signals_in before) i) 3 (λ i. refl) (length grid - 1) in
     let count = each-length (λ i. SliceOf (signals_in before) i) (length grid - 1) in record { reads = omega (arith, all); few = omega (arith, count) }
 record-small grid before (Variable name range) = record { reads = omega arith; few = omega arith }
 record-small grid before (Deriv x rate) =
-    let all = each-reads (λ i. DerivOf x.0 rate.0 i) 4 (λ i. refl) (length grid - 1) in
+    let all = each-reads grid (λ i. DerivOf x.0 rate.0 i) 4 (λ i. refl) (length grid - 1) in
     let count = each-length (λ i. DerivOf x.0 rate.0 i) (length grid - 1) in record { reads = omega (arith, all); few = omega (arith, count) }
 record-small grid before (Bound x first last range) = record { reads = omega arith; few = omega arith }
 record-small grid before (At x tick range) = record { reads = omega arith; few = omega arith }
 
 -- the same of any number of records
-pub records-reads : (grid : List ℕ) (rs before : List Item) → sum_by reads_of (constraints_from grid before rs) ≤ feet_from grid before rs
+pub records-reads : (grid : List ℕ) (rs before : List Item) → reads_in grid (constraints_from grid before rs) ≤ feet_from grid before rs
 records-reads grid [] before = omega arith
 records-reads grid (r ∷ rs) before =
     let one = record-small grid before r in
     let rest = records-reads grid rs (before ++ r ∷ []) in
-    omega (arith, one.reads, rest, sum_by-append reads_of (constraints_of grid before r) (constraints_from grid (before ++ r ∷ []) rs))
+    omega (arith, one.reads, rest, sum_by-append (reads_of grid) (constraints_of grid before r) (constraints_from grid (before ++ r ∷ []) rs))
 
 pub records-count : (grid : List ℕ) (rs before : List Item) → length (constraints_from grid before rs) ≤ feet_from grid before rs + length rs
 records-count grid [] before = omega arith
@@ -136,13 +141,52 @@ records-count grid (r ∷ rs) before =
     let rest = records-count grid rs (before ++ r ∷ []) in
     omega (arith, one.few, rest, length-append (constraints_of grid before r) (constraints_from grid (before ++ r ∷ []) rs))
 
+-- ---- what a constraint reads
+
+near-length : (s : Shape) (declared : Span) (x : ℕ) → length (cells_near s declared x) ≡ reads_near s.grid declared
+near-length s declared x = length-map (places_of (near_of s.grid declared)) (λ (place : ℕ). slice_index s.signals x + place)
+
+rate-length : (s : Shape) (rate : Option ℕ) (declared : Span) → length (rate_scope s rate declared) ≡ rate_reads s.grid rate declared
+rate-length s None declared = refl
+rate-length s (Some rate) declared = near-length s declared rate
+
+signal-length : (grid : List ℕ) (first : ℕ) → length (signal_cells grid first) ≡ place_count grid
+signal-length grid first = length-each_place grid (λ (place : ℕ). first + place)
+
+concat-length : (s : Shape) (marks : List (List ℕ)) → length (concat (map (cells_of s) marks)) ≡ length (concat marks)
+concat-length s [] = refl
+concat-length s (m ∷ ms) =
+    length-append (cells_of s m) (concat (map (cells_of s) ms)) ∙ ap₂ (λ (a b : ℕ). a + b) (length-map m (slice_index s.vars)) (concat-length s ms) ∙ sym (length-append m (concat ms))
+
+scope-length : (s : Shape) (c : Constraint) → length (constraint_scope s c) ≡ reads_of s.grid c
+scope-length s (SliceOf signal i) = refl
+scope-length s (DerivOf x rate i) = refl
+scope-length s (BoundOf x first last range) = refl
+scope-length s (EvalOf x rate t z declared) = omega (arith, length-append (cells_near s declared x) (rate_scope s rate declared), near-length s declared x, rate-length s rate declared)
+scope-length s (DelayToOf x y tau) =
+    let cells = signal_cells s.grid (slice_index s.signals x) in
+    omega (arith, length-append cells (slice_index s.vars tau ∷ []), signal-length s.grid (slice_index s.signals x))
+scope-length s (DelayFromOf x y tau) =
+    let cells = signal_cells s.grid (slice_index s.signals y) in
+    omega (arith, length-append cells (slice_index s.vars tau ∷ []), signal-length s.grid (slice_index s.signals y))
+scope-length s (DelayShiftOf x y tau) =
+    let one = signal_cells s.grid (slice_index s.signals x) in
+    let other = signal_cells s.grid (slice_index s.signals y) in
+    let rest : List ℕ = other ++ slice_index s.vars tau ∷ [] in
+    omega (
+      arith,
+      length-append one rest,
+      length-append other (slice_index s.vars tau ∷ []),
+      signal-length s.grid (slice_index s.signals x),
+      signal-length s.grid (slice_index s.signals y),
+    )
+scope-length s (DistOf p b near far) =
+    omega (arith, length-append (cells_of s p) (cells_of s b), length-map p (slice_index s.vars), length-map b (slice_index s.vars))
+scope-length s (ConstellOf p marks) =
+    omega (arith, length-append (cells_of s p) (concat (map (cells_of s) marks)), length-map p (slice_index s.vars), concat-length s marks)
+
 -- what a net's contractors read, by their constraints
-pub net-reads : (s : Shape) (cs : List AnyCtc) → entries_of any_scope s cs ≡ sum_by reads_of (map constraint_of cs)
+pub net-reads : (s : Shape) (cs : List AnyCtc) → entries_of any_scope s cs ≡ reads_in s.grid (map constraint_of cs)
 net-reads s [] = refl
 net-reads s (c ∷ cs) =
-    sum_by-cons (λ (x : AnyCtc). length (any_scope x s)) c cs ∙ ap₂ (λ (m n : ℕ). m + n) (scope-length s (constraint_of c)) (net-reads s cs) ∙ sym (sum_by-cons reads_of (constraint_of c) (map constraint_of cs))
-  where
-    scope-length : (s : Shape) (c : Constraint) → length (constraint_scope s c) ≡ reads_of c
-    scope-length s (SliceOf signal i) = refl
-    scope-length s (DerivOf x rate i) = refl
-    scope-length s (BoundOf x first last range) = refl
+    sum_by-cons (λ (x : AnyCtc). length (any_scope x s)) c cs ∙ ap₂ (λ (m n : ℕ). m + n) (scope-length s (constraint_of c)) (net-reads s cs) ∙ sym (sum_by-cons (reads_of s.grid) (constraint_of c) (map constraint_of cs))

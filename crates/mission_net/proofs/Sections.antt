@@ -51,7 +51,7 @@ module _ (grid : List ℕ) (before more : List Item) (none : IsShape (no_shape g
         subst (λ (cs : List Constraint). KeepsFixpoints (flat_map (constraint_projections (shape_by grid (before ++ more))) cs) (Some (start grid (before ++ more))) b2) (sym all)
         (subst (λ (d : List Span). KeepsFixpoints (flat_map (constraint_projections (shape_by grid (before ++ more))) (constraints grid before ++ constraints_from grid before more)) (Some d) b2) (sym (start-append grid before more))
         (section-keeps Constraint (λ c s. constraint_projections s c) (λ c s. constraint_scope s c) (λ c s b. IsOf s c)
-        (λ c s. constraint-reads_only (λ xs. IsOf s c) c s) (λ c s xs ys same fits. fits) (λ c s a b low fits. fits) (λ c s b shape fits. constraint-in_store c s shape fits)
+        (λ c s. constraint-reads_only c s) (λ c s xs ys same fits. fits) (λ c s a b low fits. fits) (λ c s b shape fits. constraint-in_store c s shape fits)
         (λ c s t b more grows fits. constraint-more c s t grows fits) (λ c s t b grows fits. constraint-same_projections c s t grows fits)
         (shape_by grid before) (shape_by grid (before ++ more)) (constraints grid before) (constraints_from grid before more) (start grid before) (start_of grid (owners_from before more))
         (shape-is grid before none few) (shape-extends grid before more) (start-length grid before) (records-of grid (shape_by grid before) (shape-grid grid before) end before [] (Extends-refl (shape_by grid before)) (right-first end before more [] right))

@@ -5,8 +5,12 @@
 mod records;
 mod section;
 
+use ctc_constell::ConstellCtc;
 use ctc_core::{Contractor, Revised};
+use ctc_delay::{DelayFrom, DelayShift, DelayTo};
 use ctc_deriv::{BoundCtc, DerivCtc, SliceCtc};
+use ctc_dist::DistCtc;
+use ctc_eval::EvalCtc;
 pub use records::build;
 pub use section::{SectionEnd, next_section};
 use std::sync::ledger::Ledger;
@@ -14,7 +18,7 @@ use step_count::Steps;
 use tube_store::{CellId, Store};
 
 /// A contractor of one of the kinds that records make. Each call is passed on to the contractor within.
-#[derive(Clone, Copy, Debug, PartialEq, Eq)]
+#[derive(Debug, Drop)]
 pub enum AnyCtc {
     /// A slice of a signal.
     Slice(SliceCtc),
@@ -22,6 +26,20 @@ pub enum AnyCtc {
     Deriv(DerivCtc),
     /// A measured range of a signal over ticks.
     Bound(BoundCtc),
+    /// The value of a signal at a time.
+    Eval(EvalCtc),
+    /// A signal and a later one, forward.
+    DelayTo(DelayTo),
+    /// A signal and a later one, backward.
+    DelayFrom(DelayFrom),
+    /// A signal and a later one, by the delay.
+    DelayShift(DelayShift),
+    /// Two points of the plane at a distance.
+    Dist2(DistCtc<2>),
+    /// Two points of space at a distance.
+    Dist3(DistCtc<3>),
+    /// A point of the plane that is one of several marks.
+    Constell(ConstellCtc<2>),
 }
 
 impl Contractor for AnyCtc {
@@ -37,7 +55,7 @@ impl Contractor for AnyCtc {
 
     ghost monotone = { λ c s. constraint-monotone (λ xs. IsOf s (constraint_of c)) (constraint_of c) s };
 
-    ghost reads_only = { λ c s. constraint-reads_only (λ xs. IsOf s (constraint_of c)) (constraint_of c) s };
+    ghost reads_only = { λ c s. constraint-reads_only (constraint_of c) s };
 
     ghost fits_local = { λ c s xs ys same fits. fits };
 
@@ -56,6 +74,13 @@ impl Contractor for AnyCtc {
             AnyCtc::Slice(c) => c.reads(store),
             AnyCtc::Deriv(c) => c.reads(store),
             AnyCtc::Bound(c) => c.reads(store),
+            AnyCtc::Eval(c) => c.reads(store),
+            AnyCtc::DelayTo(c) => c.reads(store),
+            AnyCtc::DelayFrom(c) => c.reads(store),
+            AnyCtc::DelayShift(c) => c.reads(store),
+            AnyCtc::Dist2(c) => c.reads(store),
+            AnyCtc::Dist3(c) => c.reads(store),
+            AnyCtc::Constell(c) => c.reads(store),
         }
     }
 
@@ -64,6 +89,13 @@ impl Contractor for AnyCtc {
             AnyCtc::Slice(c) => c.read(store, i),
             AnyCtc::Deriv(c) => c.read(store, i),
             AnyCtc::Bound(c) => c.read(store, i),
+            AnyCtc::Eval(c) => c.read(store, i),
+            AnyCtc::DelayTo(c) => c.read(store, i),
+            AnyCtc::DelayFrom(c) => c.read(store, i),
+            AnyCtc::DelayShift(c) => c.read(store, i),
+            AnyCtc::Dist2(c) => c.read(store, i),
+            AnyCtc::Dist3(c) => c.read(store, i),
+            AnyCtc::Constell(c) => c.read(store, i),
         }
     }
 
@@ -72,6 +104,13 @@ impl Contractor for AnyCtc {
             AnyCtc::Slice(c) => c.writes(store),
             AnyCtc::Deriv(c) => c.writes(store),
             AnyCtc::Bound(c) => c.writes(store),
+            AnyCtc::Eval(c) => c.writes(store),
+            AnyCtc::DelayTo(c) => c.writes(store),
+            AnyCtc::DelayFrom(c) => c.writes(store),
+            AnyCtc::DelayShift(c) => c.writes(store),
+            AnyCtc::Dist2(c) => c.writes(store),
+            AnyCtc::Dist3(c) => c.writes(store),
+            AnyCtc::Constell(c) => c.writes(store),
         }
     }
 
@@ -80,6 +119,13 @@ impl Contractor for AnyCtc {
             AnyCtc::Slice(c) => c.written(store, i),
             AnyCtc::Deriv(c) => c.written(store, i),
             AnyCtc::Bound(c) => c.written(store, i),
+            AnyCtc::Eval(c) => c.written(store, i),
+            AnyCtc::DelayTo(c) => c.written(store, i),
+            AnyCtc::DelayFrom(c) => c.written(store, i),
+            AnyCtc::DelayShift(c) => c.written(store, i),
+            AnyCtc::Dist2(c) => c.written(store, i),
+            AnyCtc::Dist3(c) => c.written(store, i),
+            AnyCtc::Constell(c) => c.written(store, i),
         }
     }
 
@@ -88,6 +134,13 @@ impl Contractor for AnyCtc {
             AnyCtc::Slice(c) => c.revise(store, steps),
             AnyCtc::Deriv(c) => c.revise(store, steps),
             AnyCtc::Bound(c) => c.revise(store, steps),
+            AnyCtc::Eval(c) => c.revise(store, steps),
+            AnyCtc::DelayTo(c) => c.revise(store, steps),
+            AnyCtc::DelayFrom(c) => c.revise(store, steps),
+            AnyCtc::DelayShift(c) => c.revise(store, steps),
+            AnyCtc::Dist2(c) => c.revise(store, steps),
+            AnyCtc::Dist3(c) => c.revise(store, steps),
+            AnyCtc::Constell(c) => c.revise(store, steps),
         }
     }
 
@@ -96,6 +149,13 @@ impl Contractor for AnyCtc {
             AnyCtc::Slice(c) => c.still(store, steps),
             AnyCtc::Deriv(c) => c.still(store, steps),
             AnyCtc::Bound(c) => c.still(store, steps),
+            AnyCtc::Eval(c) => c.still(store, steps),
+            AnyCtc::DelayTo(c) => c.still(store, steps),
+            AnyCtc::DelayFrom(c) => c.still(store, steps),
+            AnyCtc::DelayShift(c) => c.still(store, steps),
+            AnyCtc::Dist2(c) => c.still(store, steps),
+            AnyCtc::Dist3(c) => c.still(store, steps),
+            AnyCtc::Constell(c) => c.still(store, steps),
         }
     }
 }

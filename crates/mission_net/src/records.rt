@@ -7,7 +7,7 @@ ghost use Rattle.tube_spec.specs.Owner.{SignalIn, VariableIn, with_owners, hull_
 ghost use Rattle.ctc_deriv.specs.Bounds.{each_below};
 ghost use Rattle.mission_log.specs.Names.{signals_in};
 ghost use Rattle.mission_log.specs.Valid.{IsMission, IsRight};
-ghost use Rattle.mission_net.specs.Constraints.{SliceOf, DerivOf, IsOf, reads_of};
+ghost use Rattle.mission_net.specs.Constraints.{SliceOf, DerivOf, IsOf, reads_of, reads_in};
 ghost use Rattle.mission_net.specs.Contractors.{constraint_of};
 ghost use Rattle.mission_net.specs.Records.{made, owners, owners_from, constraints_of, constraints_from, projections, SatisfiesAll};
 ghost use Rattle.mission_net.specs.Building.{IsNetOf, IsAdded};
@@ -51,7 +51,7 @@ fn add_variable(net: &mut Net<AnyCtc>, range: Interval) -> Result<(), NoMemory>
 fn add_contractor(net: &mut Net<AnyCtc>, ctc: AnyCtc) -> Result<(), NoMemory>
     requires of { IsOf net.old.store.shape (constraint_of ctc) }
     requires few { length net.old.contractors < 4000000000 }
-    requires room { sum_by reads_of (map constraint_of net.old.contractors) + reads_of (constraint_of ctc) ≤ 20000000 }
+    requires room { reads_in net.old.store.shape.grid (map constraint_of net.old.contractors) + reads_of net.old.store.shape.grid (constraint_of ctc) ≤ 20000000 }
     ensures added { OnOk result (IsAdded [] (constraint_of ctc ∷ []) net.old net.new) }
 {
     match net.add(ctc) {
@@ -66,7 +66,7 @@ fn add_slices(net: &mut Net<AnyCtc>, signal: SignalId, slices: u32) -> Result<()
     requires signal { signal.0 < length net.old.store.shape.signals }
     requires slices { slices + 1 ≡ length net.old.store.shape.grid }
     requires few { length net.old.contractors + slices ≤ 4000000000 }
-    requires room { sum_by reads_of (map constraint_of net.old.contractors) + 3 * slices ≤ 20000000 }
+    requires room { reads_in net.old.store.shape.grid (map constraint_of net.old.contractors) + 3 * slices ≤ 20000000 }
     ensures added { OnOk result (IsAdded [] (each_below (λ i. SliceOf signal.0 i ∷ []) slices) net.old net.new) }
 {
     for i in 0..slices {
@@ -86,7 +86,7 @@ fn add_rates(
     requires rate { rate.0 < length net.old.store.shape.signals }
     requires slices { slices + 1 ≡ length net.old.store.shape.grid }
     requires few { length net.old.contractors + slices ≤ 4000000000 }
-    requires room { sum_by reads_of (map constraint_of net.old.contractors) + 4 * slices ≤ 20000000 }
+    requires room { reads_in net.old.store.shape.grid (map constraint_of net.old.contractors) + 4 * slices ≤ 20000000 }
     ensures added { OnOk result (IsAdded [] (each_below (λ i. DerivOf x.0 rate.0 i ∷ []) slices) net.old net.new) }
 {
     for i in 0..slices {
@@ -116,7 +116,7 @@ fn add_item(net: &mut Net<AnyCtc>, before: &[Item], item: &Item) -> Result<(), N
     requires signals { length net.old.store.shape.signals ≡ signals_in before.now }
     requires cells { (with_owners net.old.store.shape (made before.now item.now)).cells ≤ 2000000 }
     requires few { length net.old.contractors + length (constraints_of net.old.store.shape.grid before.now item.now) ≤ 4000000000 }
-    requires room { sum_by reads_of (map constraint_of net.old.contractors) + sum_by reads_of (constraints_of net.old.store.shape.grid before.now item.now) ≤ 20000000 }
+    requires room { reads_in net.old.store.shape.grid (map constraint_of net.old.contractors) + reads_in net.old.store.shape.grid (constraints_of net.old.store.shape.grid before.now item.now) ≤ 20000000 }
     ensures added { OnOk result (IsAdded (made before.now item.now) (constraints_of net.old.store.shape.grid before.now item.now) net.old net.new) }
 {
     let slices = net.store().slices();
