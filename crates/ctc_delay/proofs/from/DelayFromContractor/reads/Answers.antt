@@ -1,0 +1,6 @@
+use Rattle.std.proofs.Common.{arith}
+use Rattle.ctc_delay.proofs.Counts.{length-from_scope}
+use Rattle.ctc_delay.proofs.from.DelayFromContractor.reads.Goals as goal
+
+pub returns : goal.returns
+returns c = let me = c.args.self.now in omega (arith, c.place_count.ensures.count, length-from_scope c.args.store.now.shape me.x.0 me.y.0 me.tau.0)

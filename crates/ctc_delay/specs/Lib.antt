@@ -1,0 +1,5 @@
+pub mod Places
+pub mod Delays
+pub mod Ranges
+pub mod Hulls
+pub mod DelayLaws

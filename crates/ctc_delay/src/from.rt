@@ -1,0 +1,119 @@
+ghost use Rattle.std.specs.Prelude.{◌≡◌};
+
+use super::delays::{given_of, later};
+use super::places::{cell_at_place, place_count, ticks_at};
+use ctc_core::{Contractor, Formulas, Given, Revised, revise_by_formulas, still_by_formulas};
+use std::sync::ledger::Ledger;
+use step_count::Steps;
+use tube_store::{CellId, SignalId, Store, VarId};
+
+/// Backward: where no delay in `tau` leads from the last tick of a cell of `x` past the clock's end, the cell lies in the hull of what `y`
+/// is later, over the ticks of the cell and the delays.
+#[derive(Clone, Copy, Debug, PartialEq, Eq)]
+pub struct DelayFrom {
+    /// The signal that comes first.
+    pub x: SignalId,
+    /// The signal that is delayed.
+    pub y: SignalId,
+    /// The variable that says by how many ticks.
+    pub tau: VarId,
+}
+
+impl DelayFrom {
+    /// The contractor of the signal `y` that is the signal `x` of `tau` ticks before.
+    pub fn new(x: SignalId, y: SignalId, tau: VarId) -> DelayFrom
+        ensures { result ≡ record { x = x; y = y; tau = tau } }
+    {
+        DelayFrom { x, y, tau }
+    }
+}
+
+impl Formulas for DelayFrom {
+    ghost use Rattle.ctc_delay.specs.Delays.{delay_from_projections, DelayFits};
+    ghost use Rattle.ctc_delay.specs.DelayLaws.{delay_from-monotone, delay_from-in_store};
+
+    ghost projections = { λ c s. delay_from_projections s c.x.0 c.y.0 c.tau.0 };
+
+    ghost fits = { λ c s b. DelayFits s c.x.0 c.y.0 c.tau.0 };
+
+    ghost monotone = { λ c s. delay_from-monotone (λ xs. DelayFits s c.x.0 c.y.0 c.tau.0) s c.x.0 c.y.0 c.tau.0 };
+
+    ghost fits_below = { λ c s a b low fits. fits };
+
+    ghost in_store = { λ c s b shape fits. (delay_from-in_store s c.x.0 c.y.0 c.tau.0 shape fits).1 };
+
+    fn count(&self, store: &Store) -> u32 {
+        place_count(store)
+    }
+
+    fn target(&self, store: &Store, i: u32) -> CellId {
+        cell_at_place(store, self.x, i)
+    }
+
+    fn given(&self, store: &Store, i: u32) -> Given {
+        store.known();
+        let tau = store.get(store.var(self.tau));
+        let ticks = ticks_at(store, i);
+        if ticks.last as i64 + tau.hi() > store.grid().ticks() as i64 {
+            return Given::Whole;
+        }
+        given_of(later(store, self.y, tau, ticks))
+    }
+}
+
+impl Contractor for DelayFrom {
+    ghost use Rattle.ctc_delay.specs.Delays.{delay_from_projections, delay_from_scope, DelayFits};
+    ghost use Rattle.ctc_delay.specs.DelayLaws.{delay_from-monotone, delay_from-reads_only, delay_from-in_store, delay-fits_more, delay_from-same_projections, delay_from-same_scope};
+
+    ghost projections = { λ c s. delay_from_projections s c.x.0 c.y.0 c.tau.0 };
+
+    ghost scope = { λ c s. delay_from_scope s c.y.0 c.tau.0 };
+
+    ghost fits = { λ c s b. DelayFits s c.x.0 c.y.0 c.tau.0 };
+
+    ghost monotone = { λ c s. delay_from-monotone (λ xs. DelayFits s c.x.0 c.y.0 c.tau.0) s c.x.0 c.y.0 c.tau.0 };
+
+    ghost reads_only = { λ c s. delay_from-reads_only (λ xs. DelayFits s c.x.0 c.y.0 c.tau.0) s c.x.0 c.y.0 c.tau.0 };
+
+    ghost fits_local = { λ c s xs ys same fits. fits };
+
+    ghost fits_below = { λ c s a b low fits. fits };
+
+    ghost in_store = { λ c s b shape fits. delay_from-in_store s c.x.0 c.y.0 c.tau.0 shape fits };
+
+    ghost fits_more = { λ c s t b more grows fits. delay-fits_more s t c.x.0 c.y.0 c.tau.0 grows fits };
+
+    ghost same_projections = { λ c s t b grows fits. delay_from-same_projections s t c.x.0 c.y.0 c.tau.0 grows fits };
+
+    ghost same_scope = { λ c s t b grows fits. delay_from-same_scope s t c.x.0 c.y.0 c.tau.0 grows fits };
+
+    fn reads(&self, store: &Store) -> u32 {
+        place_count(store) + 1
+    }
+
+    fn read(&self, store: &Store, i: u32) -> CellId {
+        if i < place_count(store) {
+            cell_at_place(store, self.y, i)
+        } else {
+            store.var(self.tau)
+        }
+    }
+
+    fn writes(&self, store: &Store) -> u32 {
+        self.count(store)
+    }
+
+    fn written(&self, store: &Store, i: u32) -> CellId {
+        self.target(store, i)
+    }
+
+    fn revise<L: Ledger>(&self, store: &mut Store, steps: &mut Steps<L>) -> Revised {
+        steps.tick();
+        revise_by_formulas(self, store)
+    }
+
+    fn still<L: Ledger>(&self, store: &Store, steps: &mut Steps<L>) -> bool {
+        steps.tick();
+        still_by_formulas(self, store)
+    }
+}

@@ -1,0 +1,118 @@
+ghost use Rattle.std.specs.Prelude.{◌≡◌};
+
+use super::delays::{earlier, given_of};
+use super::places::{cell_at_place, place_count, ticks_at};
+use ctc_core::{Contractor, Formulas, Given, Revised, revise_by_formulas, still_by_formulas};
+use std::sync::ledger::Ledger;
+use step_count::Steps;
+use tube_store::{CellId, SignalId, Store, VarId};
+
+/// Forward: where no delay in `tau` is above the first tick of a cell of `y`, the cell lies in the hull of what `x` was before, over the
+/// ticks of the cell and the delays.
+#[derive(Clone, Copy, Debug, PartialEq, Eq)]
+pub struct DelayTo {
+    /// The signal that comes first.
+    pub x: SignalId,
+    /// The signal that is delayed.
+    pub y: SignalId,
+    /// The variable that says by how many ticks.
+    pub tau: VarId,
+}
+
+impl DelayTo {
+    /// The contractor of the signal `y` that is the signal `x` of `tau` ticks before.
+    pub fn new(x: SignalId, y: SignalId, tau: VarId) -> DelayTo
+        ensures { result ≡ record { x = x; y = y; tau = tau } }
+    {
+        DelayTo { x, y, tau }
+    }
+}
+
+impl Formulas for DelayTo {
+    ghost use Rattle.ctc_delay.specs.Delays.{delay_to_projections, DelayFits};
+    ghost use Rattle.ctc_delay.specs.DelayLaws.{delay_to-monotone, delay_to-in_store};
+
+    ghost projections = { λ c s. delay_to_projections s c.x.0 c.y.0 c.tau.0 };
+
+    ghost fits = { λ c s b. DelayFits s c.x.0 c.y.0 c.tau.0 };
+
+    ghost monotone = { λ c s. delay_to-monotone (λ xs. DelayFits s c.x.0 c.y.0 c.tau.0) s c.x.0 c.y.0 c.tau.0 };
+
+    ghost fits_below = { λ c s a b low fits. fits };
+
+    ghost in_store = { λ c s b shape fits. (delay_to-in_store s c.x.0 c.y.0 c.tau.0 shape fits).1 };
+
+    fn count(&self, store: &Store) -> u32 {
+        place_count(store)
+    }
+
+    fn target(&self, store: &Store, i: u32) -> CellId {
+        cell_at_place(store, self.y, i)
+    }
+
+    fn given(&self, store: &Store, i: u32) -> Given {
+        let tau = store.get(store.var(self.tau));
+        let ticks = ticks_at(store, i);
+        if tau.hi() > ticks.first as i64 {
+            return Given::Whole;
+        }
+        given_of(earlier(store, self.x, tau, ticks))
+    }
+}
+
+impl Contractor for DelayTo {
+    ghost use Rattle.ctc_delay.specs.Delays.{delay_to_projections, delay_to_scope, DelayFits};
+    ghost use Rattle.ctc_delay.specs.DelayLaws.{delay_to-monotone, delay_to-reads_only, delay_to-in_store, delay-fits_more, delay_to-same_projections, delay_to-same_scope};
+
+    ghost projections = { λ c s. delay_to_projections s c.x.0 c.y.0 c.tau.0 };
+
+    ghost scope = { λ c s. delay_to_scope s c.x.0 c.tau.0 };
+
+    ghost fits = { λ c s b. DelayFits s c.x.0 c.y.0 c.tau.0 };
+
+    ghost monotone = { λ c s. delay_to-monotone (λ xs. DelayFits s c.x.0 c.y.0 c.tau.0) s c.x.0 c.y.0 c.tau.0 };
+
+    ghost reads_only = { λ c s. delay_to-reads_only (λ xs. DelayFits s c.x.0 c.y.0 c.tau.0) s c.x.0 c.y.0 c.tau.0 };
+
+    ghost fits_local = { λ c s xs ys same fits. fits };
+
+    ghost fits_below = { λ c s a b low fits. fits };
+
+    ghost in_store = { λ c s b shape fits. delay_to-in_store s c.x.0 c.y.0 c.tau.0 shape fits };
+
+    ghost fits_more = { λ c s t b more grows fits. delay-fits_more s t c.x.0 c.y.0 c.tau.0 grows fits };
+
+    ghost same_projections = { λ c s t b grows fits. delay_to-same_projections s t c.x.0 c.y.0 c.tau.0 grows fits };
+
+    ghost same_scope = { λ c s t b grows fits. delay_to-same_scope s t c.x.0 c.y.0 c.tau.0 grows fits };
+
+    fn reads(&self, store: &Store) -> u32 {
+        place_count(store) + 1
+    }
+
+    fn read(&self, store: &Store, i: u32) -> CellId {
+        if i < place_count(store) {
+            cell_at_place(store, self.x, i)
+        } else {
+            store.var(self.tau)
+        }
+    }
+
+    fn writes(&self, store: &Store) -> u32 {
+        self.count(store)
+    }
+
+    fn written(&self, store: &Store, i: u32) -> CellId {
+        self.target(store, i)
+    }
+
+    fn revise<L: Ledger>(&self, store: &mut Store, steps: &mut Steps<L>) -> Revised {
+        steps.tick();
+        revise_by_formulas(self, store)
+    }
+
+    fn still<L: Ledger>(&self, store: &Store, steps: &mut Steps<L>) -> bool {
+        steps.tick();
+        still_by_formulas(self, store)
+    }
+}
