@@ -1,0 +1,4 @@
+pub mod Points
+pub mod Constellations
+pub mod PointLaws
+pub mod ConstellLaws

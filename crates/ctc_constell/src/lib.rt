@@ -1,0 +1,25 @@
+//! The contractor of a point that is one of several marks, in two or three coordinates: a landmark seen, but not known which.
+//!
+//! [`ConstellCtc`] holds each coordinate of the point by the hull, over the marks whose box meets the point's box, of the meeting of both
+//! in that coordinate. So a mark that cannot be the one leaves nothing, and all that can be count together:
+//!
+//! ```text
+//!    +----------------- point ---+
+//!    |   +-+            +-+      |    +-+
+//!    |   |1|            |2|      |    |3|     marks 1 and 2 are left, and the hull of both
+//!    |   +-+            +-+      |    +-+
+//!    +---------------------------+
+//! ```
+//!
+//! The contractor of a constellation is that of Codac (Rohou, Jaulin and others): "Reliable Robot Localization: A Constraint-Programming
+//! Approach over Dynamical Systems" (2019), where landmarks are indistinguishable. Here it is exact over whole numbers, box by box.
+#![tactic(auto)]
+
+mod boxes;
+mod constell;
+mod laws;
+#[cfg(test)]
+mod tests;
+
+pub use constell::ConstellCtc;
+pub use laws::constell_law;
