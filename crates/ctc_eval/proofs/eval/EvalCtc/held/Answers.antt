@@ -1,7 +1,7 @@
 use Rattle.std.proofs.Common.{◌≡◌, ◌≤◌, ◌<◌, Some, Option, IfSome, arith, ap, subst, length}
 use Rattle.tube_spec.specs.Shape.{Shape}
 use Rattle.tube_store.specs.declared.SignalId.{SignalId}
-use Rattle.ctc_eval.specs.Evals.{rate_of}
+use Rattle.ctc_eval.specs.Held.{rate_of}
 use Rattle.ctc_eval.proofs.Places.{gate-held, gate-named, reached-held, reached-named, alone-below}
 use Rattle.ctc_eval.proofs.eval.EvalCtc.held.Goals as goal
 
