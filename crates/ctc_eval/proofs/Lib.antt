@@ -2,4 +2,5 @@ pub mod Hulls
 pub mod Places
 pub mod Sweeping
 pub mod Stable
+pub mod Shares
 mod Examples

@@ -2,6 +2,7 @@ pub mod Clock
 pub mod Gains
 pub mod Near
 pub mod Evals
+pub mod Held
 pub mod ClockLaws
 pub mod GainLaws
 pub mod NearLaws

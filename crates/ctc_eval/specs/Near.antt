@@ -40,3 +40,8 @@ gates_of (Some n) = range_with_len n.first (n.last + 2 - n.first)
 abbrev pub places_of : Option Near → List ℕ
 places_of None = []
 places_of (Some n) = range_with_len (2 * n.first) (2 * (n.last + 1 - n.first) + 1)
+
+-- a slice is one of them
+abbrev pub IsOneOf : Option Near → ℕ → Type 0
+IsOneOf None slice = ⊥
+IsOneOf (Some n) slice = (n.first ≤ slice) × (slice ≤ n.last)

@@ -4,7 +4,8 @@ ghost use Rattle.tube_spec.specs.Narrowing.{narrowing_of};
 ghost use Rattle.ctc_core.specs.Given.{projection_at, narrowing_given};
 ghost use Rattle.ctc_eval.specs.Clock.{ticks_of, cells_of};
 ghost use Rattle.ctc_eval.specs.Near.{near_of, places_of};
-ghost use Rattle.ctc_eval.specs.Evals.{EvalFits, IsOfShape, cells_near, eval_projections, projection_of, rate_of, time_of, value_hull, time_hull, gate_narrowing, reached_hull};
+ghost use Rattle.ctc_eval.specs.Evals.{EvalFits, cells_near, eval_projections, time_of, value_hull, time_hull, gate_narrowing, reached_hull};
+ghost use Rattle.ctc_eval.specs.Held.{IsOfShape, projection_of, rate_of};
 
 use super::clock::{Ticks, ticks_in};
 use super::near::{Near, first, gates, near_in, places};
@@ -213,7 +214,8 @@ impl EvalCtc {
 }
 
 impl Formulas for EvalCtc {
-    ghost use Rattle.ctc_eval.specs.Evals.{EvalFits, eval_projections, rate_of};
+    ghost use Rattle.ctc_eval.specs.Evals.{EvalFits, eval_projections};
+    ghost use Rattle.ctc_eval.specs.Held.{rate_of};
     ghost use Rattle.ctc_eval.specs.EvalLaws.{eval-monotone, eval-in_store};
 
     ghost projections = { λ c s. eval_projections s c.x.0 (rate_of c.rate) c.t.0 c.z.0 c.declared };
@@ -255,7 +257,8 @@ impl Formulas for EvalCtc {
 }
 
 impl Contractor for EvalCtc {
-    ghost use Rattle.ctc_eval.specs.Evals.{EvalFits, eval_projections, eval_scope, rate_of};
+    ghost use Rattle.ctc_eval.specs.Evals.{EvalFits, eval_projections, eval_scope};
+    ghost use Rattle.ctc_eval.specs.Held.{rate_of};
     ghost use Rattle.ctc_eval.specs.EvalLaws.{eval-monotone, eval-reads_only, eval-in_store, eval-fits_more, eval-same_projections, eval-same_scope};
 
     ghost projections = { λ c s. eval_projections s c.x.0 (rate_of c.rate) c.t.0 c.z.0 c.declared };

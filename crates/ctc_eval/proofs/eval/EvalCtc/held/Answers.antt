@@ -1,7 +1,7 @@
-use Rattle.std.proofs.Common.{◌≡◌, ◌≤◌, ◌<◌, ◌-◌, ℕ, Some, None, Option, IfSome, arith, ap, subst, length}
+use Rattle.std.proofs.Common.{◌≡◌, ◌≤◌, ◌<◌, Some, Option, IfSome, arith, ap, subst, length}
 use Rattle.tube_spec.specs.Shape.{Shape}
 use Rattle.tube_store.specs.declared.SignalId.{SignalId}
-use Rattle.ctc_eval.specs.Evals.{rate_of}
+use Rattle.ctc_eval.specs.Held.{rate_of}
 use Rattle.ctc_eval.proofs.Places.{gate-held, gate-named, reached-held, reached-named, alone-below}
 use Rattle.ctc_eval.proofs.eval.EvalCtc.held.Goals as goal
 
@@ -52,7 +52,7 @@ returns-else-gate-count-clause-named c =
     let me = c.args.self.now in
     let le : 2 ≤ c.args.i = omega (arith, c.if-i-eq0.false, c.if-i-eq1.false) in
     let named = reached-named s me.x.0 (rate_of me.rate) me.t.0 me.z.0 me.declared c.near-near.result c.near-near.ensures.value c.first-else-gate-count.result c.gates-count.result c.first-else-gate-count.ensures c.gates-count.ensures.value
-        c.in-Some.rate.0 c.args.i (ap rate_of c.in-Some.is) c.requires.fits.grid.slices le c.if-gate-count.false c.requires.below in
+    c.in-Some.rate.0 c.args.i (ap rate_of c.in-Some.is) c.requires.fits.grid.slices le c.if-gate-count.false c.requires.below in
     (named, rated s me.rate c.in-Some.rate c.in-Some.is c.requires.fits.rates)
 
 pub returns-in-None-clause-projection : goal.returns-in-None-clause-projection

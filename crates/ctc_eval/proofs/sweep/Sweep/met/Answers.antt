@@ -1,4 +1,4 @@
-use Rattle.std.proofs.Common.{◌+◌, arith, sym, ◌∙◌}
+use Rattle.std.proofs.Common.{arith, sym, ◌∙◌}
 use Rattle.ctc_eval.specs.Clock.{only_in, cells_of}
 use Rattle.ctc_eval.specs.Evals.{met_at}
 use Rattle.ctc_eval.proofs.Hulls.{hull-none, hull-until, only-inside}

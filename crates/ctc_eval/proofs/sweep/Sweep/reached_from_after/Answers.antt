@@ -1,12 +1,10 @@
-use Rattle.std.proofs.Common.{ℕ, ◌+◌, ◌-◌, ◌≤◌, Option, arith, sym, ◌∙◌, refl}
-use Rattle.tube_spec.specs.Span.{Span, IsBounded}
+use Rattle.std.proofs.Common.{arith, sym, ◌∙◌}
 use Rattle.tube_spec.specs.Tick.{at_tick}
 use Rattle.ctc_eval.specs.Clock.{only_in, cells_of}
-use Rattle.ctc_eval.specs.Gains.{gain}
 use Rattle.ctc_eval.specs.GainLaws.{gain-here}
 use Rattle.ctc_eval.specs.Evals.{reached_from}
-use Rattle.ctc_eval.proofs.Hulls.{hull-none, hull-until, hull-from}
-use Rattle.ctc_eval.proofs.Sweeping.{hull-on, hull-back, reached-here, sum-back, sum-on, rates-bounded, sum-fits, add-fits, sub-fits}
+use Rattle.ctc_eval.proofs.Hulls.{hull-none, hull-until}
+use Rattle.ctc_eval.proofs.Sweeping.{hull-on, reached-here, sum-on, rates-bounded, sum-fits, sub-fits}
 use Rattle.ctc_eval.proofs.sweep.Sweep.reached_from_after.Goals as goal
 
 pub loop-tick-init : goal.loop-tick-init

@@ -1,0 +1,28 @@
+-- What each projection of an evaluation holds, by its number in the code.
+use Rattle.std.specs.Prelude.{ℕ, ◌<◌, Option, length}
+use Rattle.std.specs.Option.{option_map}
+use Rattle.tube_spec.specs.Span.{Span}
+use Rattle.tube_spec.specs.Shape.{Shape}
+use Rattle.tube_spec.specs.Projection.{Projection}
+use Rattle.tube_store.specs.declared.SignalId.{SignalId}
+use Rattle.ctc_eval.specs.declared.eval.Held.{Held}
+use Rattle.ctc_eval.specs.declared.eval.Held.TheVariants.{Value, Time, Gate, Reached}
+use Rattle.ctc_eval.specs.Evals.{value_projection, time_projection, gate_projection, reached_projection}
+
+-- the number of a rate's signal
+abbrev pub rate_of : Option SignalId → Option ℕ
+rate_of rate = option_map (λ signal. signal.0) rate
+
+-- the projection of what is held
+abbrev pub projection_of : Shape → ℕ → ℕ → ℕ → Span → Held → Projection
+projection_of s x t z declared Value = value_projection s x t z declared
+projection_of s x t z declared Time = time_projection s x t z declared
+projection_of s x t z declared (Gate gate) = gate_projection s x t z declared gate
+projection_of s x t z declared (Reached rate gate) = reached_projection s x rate.0 t z declared gate
+
+-- it names a gate, and a rate, of the shape
+abbrev pub IsOfShape : Shape → Held → Type 0
+IsOfShape s Value = Unit {0}
+IsOfShape s Time = Unit {0}
+IsOfShape s (Gate gate) = gate < length s.grid
+IsOfShape s (Reached rate gate) = (gate < length s.grid) × (rate.0 < length s.signals)
