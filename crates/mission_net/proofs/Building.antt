@@ -1,6 +1,6 @@
 -- What building records leaves.
-use Rattle.std.proofs.Common.{◌≡◌, ℕ, zero, suc, ◌+◌, ◌-◌, ◌*◌, ◌<◌, ◌≤◌, Option, Some, None, List, [], ◌∷◌, ◌++◌, Bool, true, arith, refl, sym, ap, ap₂, subst, ◌∙◌, length, map, take, drop, get_or, length-append, append-nil, append_assoc, add-zero, length-take-le, replicate, sum_by, slice_index, flat_map}
-use Rattle.std.proofs.lemmas.List.{take_more, drop-take, drop-append-le, map-append, length-map, take-append-drop, replicate-append-replicate, take-take}
+use Rattle.std.proofs.Common.{◌≡◌, ℕ, suc, ◌+◌, ◌-◌, ◌*◌, ◌<◌, ◌≤◌, Option, Some, None, List, [], ◌∷◌, ◌++◌, Bool, true, arith, refl, sym, ap, ap₂, subst, ◌∙◌, length, map, take, drop, length-append, append-nil, append_assoc, add-zero, length-take-le, replicate, slice_index}
+use Rattle.std.proofs.lemmas.List.{drop-take, drop-append-le, map-append, length-map, take-append-drop, replicate-append-replicate, take-take}
 use Rattle.std.proofs.lemmas.List.Sums.{sum_by-append}
 use Rattle.std.proofs.lemmas.List.Concat.{flat_map-append}
 use Rattle.tube_spec.specs.Span.{Span}
@@ -8,28 +8,28 @@ use Rattle.tube_spec.specs.Grid.{IsGrid, last_tick}
 use Rattle.tube_spec.specs.Shape.{Shape, Extends, no_shape}
 use Rattle.tube_spec.specs.Box.{IsBelow, IsBelowBox, box_more}
 use Rattle.tube_spec.specs.Assignment.{Assignment}
-use Rattle.tube_spec.specs.Owner.{Owner, SignalIn, VariableIn, with_owner, with_owners, start_of, declared_cells, owner_hull, owners_hull, hull_box}
+use Rattle.tube_spec.specs.Owner.{Owner, with_owner, with_owners, start_of, declared_cells, owner_hull, owners_hull, hull_box}
 use Rattle.tube_spec.proofs.Prefixes.{IsBelow-append}
 use Rattle.tube_spec.proofs.Hulls.{with_owners-append, owners-extend, owners-below, IsBelow-both}
 use Rattle.tube_spec.proofs.Ticks.{last-greatest}
-use Rattle.tube_store.specs.State.{State, state_with}
+use Rattle.tube_store.specs.State.{state_with}
 use Rattle.ctc_network.specs.Nets.{NetState}
 use Rattle.ctc_deriv.specs.Bounds.{each_below}
 use Rattle.tube_store.specs.declared.SignalId.{SignalId}
 use Rattle.mission_log.specs.declared.item.Item.{Item}
-use Rattle.mission_log.specs.declared.item.Item.TheVariants.{Signal, Deriv, At}
+use Rattle.mission_log.specs.declared.item.Item.TheVariants.{Signal, Deriv}
 use Rattle.mission_log.specs.declared.item.Mission.{Mission}
 use Rattle.mission_log.specs.Names.{signals_in}
-use Rattle.mission_log.specs.Room.{feet_of}
-use Rattle.mission_log.specs.Valid.{IsMission, IsRight, AreRight}
-use Rattle.mission_net.specs.Constraints.{Constraint, reads_of, reads_in}
+use Rattle.mission_log.specs.Valid.{IsMission, IsRight}
+use Rattle.mission_net.specs.Constraints.{Constraint, SliceOf, DerivOf, reads_of, reads_in}
 use Rattle.mission_net.specs.Records.{made, owners, owners_from, shape_by, start, constraints_of, constraints_from, constraints, SatisfiesFrom, SatisfiesAll}
 use Rattle.mission_net.specs.declared.AnyCtc.{AnyCtc}
 use Rattle.mission_net.specs.Contractors.{constraint_of}
 use Rattle.mission_net.specs.Building.{IsNetOf, IsAdded}
-use Rattle.mission_net.proofs.Shapes.{owners-append, shape-snoc, shape-grid, shape-append, shape-extends}
+use Rattle.mission_net.proofs.Shapes.{owners-append, shape-snoc, shape-grid, shape-extends}
+use Rattle.mission_net.proofs.Counts.{signals-count}
 use Rattle.mission_net.proofs.Enclosing.{satisfies-in-range}
-use Rattle.mission_net.proofs.Reading.{start-append, constraints-append, constraints-snoc, right-at, cells-count, records-reads, records-count, each-reads, each-length}
+use Rattle.mission_net.proofs.Reading.{start-append, constraints-append, constraints-snoc, cells-count, records-reads, records-count, each-reads, each-length}
 
 -- ---- boxes with further cells
 
@@ -62,6 +62,10 @@ added-then os ps cs ds a b c p q =
           ∙ ap (λ (xs : List Bool). a.waiting ++ xs) (replicate-append-replicate (length cs) (length ds) true ∙ ap (λ (n : ℕ). replicate n true) (sym (length-append cs ds)));
     }
 
+-- additions leave the grid as it was
+pub added-grid : (os : List Owner) (cs : List Constraint) (a b : NetState AnyCtc) → IsAdded os cs a b → b.store.shape.grid ≡ a.store.shape.grid
+added-grid os cs a b p = ap (λ (s : Shape). s.grid) p.shape ∙ (owners-extend os a.store.shape).grid
+
 -- further cells, as the net adds them
 pub added-owner : (o : Owner) (old new : NetState AnyCtc) → new ≡ record old { store = state_with old.store o } → IsAdded (o ∷ []) [] old new
 added-owner o old new e = record {
@@ -92,17 +96,42 @@ row-few f i a b p =
     let e = ap length p.contractors in
     omega (arith, e, length-append (map constraint_of a.contractors) (each_below (λ i. f i ∷ []) i), each-length f i, length-map a.contractors constraint_of, length-map b.contractors constraint_of)
 
-pub row-reads : (grid : List ℕ) (f : ℕ → Constraint) (m : ℕ) → ((i : ℕ) → reads_of grid (f i) ≡ m) → (i : ℕ) (a b : NetState AnyCtc) → IsAdded [] (each_below (λ i. f i ∷ []) i) a b
-    → reads_in grid (map constraint_of b.contractors) ≡ reads_in grid (map constraint_of a.contractors) + m * i
-row-reads grid f m h i a b p =
-    ap (reads_in grid) p.contractors ∙ sum_by-append (reads_of grid) (map constraint_of a.contractors) (each_below (λ i. f i ∷ []) i) ∙ ap (λ (n : ℕ). reads_in grid (map constraint_of a.contractors) + n) (each-reads grid f m h i)
+pub row-reads : (f : ℕ → Constraint) (m : ℕ) → ((grid : List ℕ) (i : ℕ) → reads_of grid (f i) ≡ m) → (i : ℕ) (a b : NetState AnyCtc) → IsAdded [] (each_below (λ i. f i ∷ []) i) a b
+    → reads_in b.store.shape.grid (map constraint_of b.contractors) ≡ reads_in a.store.shape.grid (map constraint_of a.contractors) + m * i
+row-reads f m h i a b p =
+    let grid = a.store.shape.grid in
+    ap₂ reads_in (added-grid [] (each_below (λ i. f i ∷ []) i) a b p) p.contractors ∙ sum_by-append (reads_of grid) (map constraint_of a.contractors) (each_below (λ i. f i ∷ []) i)
+    ∙ ap (λ (n : ℕ). reads_in grid (map constraint_of a.contractors) + n) (each-reads grid f m (h grid) i)
 
 -- cells alone leave the contractors as they were
 pub none-few : (os : List Owner) (a b : NetState AnyCtc) → IsAdded os [] a b → length b.contractors ≡ length a.contractors
 none-few os a b p = let e = ap length (p.contractors ∙ append-nil (map constraint_of a.contractors)) in omega (arith, e, length-map a.contractors constraint_of, length-map b.contractors constraint_of)
 
-pub none-reads : (grid : List ℕ) (os : List Owner) (a b : NetState AnyCtc) → IsAdded os [] a b → reads_in grid (map constraint_of b.contractors) ≡ reads_in grid (map constraint_of a.contractors)
-none-reads grid os a b p = ap (reads_in grid) (p.contractors ∙ append-nil (map constraint_of a.contractors))
+pub none-reads : (os : List Owner) (a b : NetState AnyCtc) → IsAdded os [] a b → reads_in b.store.shape.grid (map constraint_of b.contractors) ≡ reads_in a.store.shape.grid (map constraint_of a.contractors)
+none-reads os a b p = ap₂ reads_in (added-grid os [] a b p) (p.contractors ∙ append-nil (map constraint_of a.contractors))
+
+-- ---- the room that a record of a kind asks for
+
+module _ (grid : List ℕ) (before : List Item) (item : Item) (k : ℕ) (slices : k + 1 ≡ length grid) where
+  pub signal-few : (name : List ℕ) (range : Span) (n : ℕ) → item ≡ Signal name range → n + length (constraints_of grid before item) ≤ 4000000000 → n + k ≤ 4000000000
+  signal-few name range n e few =
+      let made : n + length (constraints_of grid before (Signal name range)) ≤ 4000000000 = subst (λ (r : Item). n + length (constraints_of grid before r) ≤ 4000000000) e few in
+      omega (arith, made, slices, each-length (λ i. SliceOf (signals_in before) i) (length grid - 1))
+
+  pub signal-room : (name : List ℕ) (range : Span) (n : ℕ) → item ≡ Signal name range → n + reads_in grid (constraints_of grid before item) ≤ 20000000 → n + 3 * k ≤ 20000000
+  signal-room name range n e room =
+      let made : n + reads_in grid (constraints_of grid before (Signal name range)) ≤ 20000000 = subst (λ (r : Item). n + reads_in grid (constraints_of grid before r) ≤ 20000000) e room in
+      omega (arith, made, slices, each-reads grid (λ i. SliceOf (signals_in before) i) 3 (λ i. refl) (length grid - 1))
+
+  pub deriv-few : (x rate : SignalId) (n : ℕ) → item ≡ Deriv x rate → n + length (constraints_of grid before item) ≤ 4000000000 → n + k ≤ 4000000000
+  deriv-few x rate n e few =
+      let made : n + length (constraints_of grid before (Deriv x rate)) ≤ 4000000000 = subst (λ (r : Item). n + length (constraints_of grid before r) ≤ 4000000000) e few in
+      omega (arith, made, slices, each-length (λ i. DerivOf x.0 rate.0 i) (length grid - 1))
+
+  pub deriv-room : (x rate : SignalId) (n : ℕ) → item ≡ Deriv x rate → n + reads_in grid (constraints_of grid before item) ≤ 20000000 → n + 4 * k ≤ 20000000
+  deriv-room x rate n e room =
+      let made : n + reads_in grid (constraints_of grid before (Deriv x rate)) ≤ 20000000 = subst (λ (r : Item). n + reads_in grid (constraints_of grid before r) ≤ 20000000) e room in
+      omega (arith, made, slices, each-reads grid (λ i. DerivOf x.0 rate.0 i) 4 (λ i. refl) (length grid - 1))
 
 -- ---- the net of the records so far, and what was added to it
 
@@ -132,11 +161,11 @@ built-none grid items first net holds =
 pub first-part : (first i : ℕ) (items : List Item) → first ≤ i → i ≤ length items → take first items ++ drop first (take i items) ≡ take i items
 first-part first i items order inside = ap (λ (l : List Item). l ++ drop first (take i items)) (sym (take-take first i items order)) ∙ take-append-drop first (take i items)
 
-pub built-more : (grid : List ℕ) (items : List Item) (first i : ℕ) (d : Item) (begun old new : NetState AnyCtc) → first ≤ i → i < length items → IsBuiltTo grid items first i begun old
-    → IsAdded (made (take i items) (get_or items i d)) (constraints_of grid (take i items) (get_or items i d)) old new → IsBuiltTo grid items first (i + 1) begun new
-built-more grid items first i d begun old new order inside built added =
-    let x = get_or items i d in
-    let longer = take_more items i d inside in
+pub built-more : (grid : List ℕ) (items : List Item) (first i : ℕ) (x : Item) (begun old new : NetState AnyCtc) → first ≤ i → i < length items → take (i + 1) items ≡ take i items ++ x ∷ [] → IsBuiltTo grid items first i begun old
+    → IsAdded (made (take i items) x) (constraints_of old.store.shape.grid (take i items) x) old new → IsBuiltTo grid items first (i + 1) begun new
+built-more grid items first i x begun old new order inside longer built added =
+    let same : old.store.shape.grid ≡ grid = ap (λ (s : Shape). s.grid) built.holds.shape ∙ shape-grid grid (take i items) in
+    let here : IsAdded (made (take i items) x) (constraints_of grid (take i items) x) old new = subst (λ (g : List ℕ). IsAdded (made (take i items) x) (constraints_of g (take i items) x) old new) same added in
     let from = take first items in
     let some = drop first (take i items) in
     let part : drop first (take (i + 1) items) ≡ some ++ x ∷ [] = ap (drop first) longer ∙ drop-append-le first (take i items) (x ∷ []) (omega (arith, order, length-take-le i items (omega (arith, inside)))) in
@@ -146,11 +175,11 @@ built-more grid items first i d begun old new order inside built added =
     (append-nil (constraints_of grid (from ++ some) x) ∙ ap (λ (l : List Item). constraints_of grid l x) before) in
     let os : owners_from from (some ++ x ∷ []) ≡ owners_from from some ++ made (take i items) x =
     owners-append some (x ∷ []) from ∙ ap (λ (l : List Owner). owners_from from some ++ l) (append-nil (made (from ++ some) x) ∙ ap (λ (l : List Item). made l x) before) in record {
-      holds = subst (λ (l : List Item). IsNetOf grid l new) (sym longer) (added-holds grid (take i items) x old new built.holds added);
+      holds = subst (λ (l : List Item). IsNetOf grid l new) (sym longer) (added-holds grid (take i items) x old new built.holds here);
       added = subst (λ (l : List Item). IsAdded (owners_from from l) (constraints_from grid from l) begun new) (sym part)
           (subst (λ (l : List Owner). IsAdded l (constraints_from grid from (some ++ x ∷ [])) begun new) (sym os)
           (subst (λ (l : List Constraint). IsAdded (owners_from from some ++ made (take i items) x) l begun new) (sym cs)
-          (added-then (owners_from from some) (made (take i items) x) (constraints_from grid from some) (constraints_of grid (take i items) x) begun old new built.added added)));
+          (added-then (owners_from from some) (made (take i items) x) (constraints_from grid from some) (constraints_of grid (take i items) x) begun old new built.added here)));
     }
 
 -- ---- the room that the next record asks of the net
@@ -174,8 +203,20 @@ module _ (m : Mission) (is : IsMission m) (i : ℕ) (x : Item) (net : NetState A
       (ap (λ (xs : List Constraint). xs ++ constraints_of m.cuts (take i m.items) x) holds.contractors ∙ sym (constraints-snoc m.cuts (take i m.items) x) ∙ ap (constraints m.cuts) (sym longer))
       ∙ sym (constraints-append m.cuts (take (i + 1) m.items) (drop (i + 1) m.items) []) ∙ ap (constraints m.cuts) (take-append-drop (i + 1) m.items)
 
-  pub next-few : length net.contractors + length (constraints_of m.cuts (take i m.items) x) ≤ 4000000000
-  next-few =
+  grid : net.store.shape.grid ≡ m.cuts
+  grid = ap (λ (s : Shape). s.grid) holds.shape ∙ shape-grid m.cuts (take i m.items)
+
+  pub next-clock : last_tick net.store.shape.grid ≤ 100000
+  next-clock = omega (arith, ap last_tick grid, is.clock.ends, is.clock.few_ticks)
+
+  pub next-right : IsRight m.ticks (take i m.items) x → IsRight (last_tick net.store.shape.grid) (take i m.items) x
+  next-right right = subst (λ (end : ℕ). IsRight end (take i m.items) x) (sym (ap last_tick grid ∙ is.clock.ends)) right
+
+  pub next-signals : length net.store.shape.signals ≡ signals_in (take i m.items)
+  next-signals = ap (λ (s : Shape). length s.signals) holds.shape ∙ signals-count m.cuts (take i m.items)
+
+  few : length net.contractors + length (constraints_of m.cuts (take i m.items) x) ≤ 4000000000
+  few =
       let all = records-count m.cuts m.items [] in
       omega (
         arith,
@@ -188,8 +229,8 @@ module _ (m : Mission) (is : IsMission m) (i : ℕ) (x : Item) (net : NetState A
         length-map net.contractors constraint_of,
       )
 
-  pub next-room : reads_in m.cuts (map constraint_of net.contractors) + reads_in m.cuts (constraints_of m.cuts (take i m.items) x) ≤ 20000000
-  next-room =
+  room : reads_in m.cuts (map constraint_of net.contractors) + reads_in m.cuts (constraints_of m.cuts (take i m.items) x) ≤ 20000000
+  room =
       let all = records-reads m.cuts m.items [] in
       omega (
         arith,
@@ -199,6 +240,12 @@ module _ (m : Mission) (is : IsMission m) (i : ℕ) (x : Item) (net : NetState A
         sum_by-append (reads_of m.cuts) (map constraint_of net.contractors ++ constraints_of m.cuts (take i m.items) x) (constraints_from m.cuts (take (i + 1) m.items) (drop (i + 1) m.items)),
         sum_by-append (reads_of m.cuts) (map constraint_of net.contractors) (constraints_of m.cuts (take i m.items) x),
       )
+
+  pub next-few : length net.contractors + length (constraints_of net.store.shape.grid (take i m.items) x) ≤ 4000000000
+  next-few = subst (λ (g : List ℕ). length net.contractors + length (constraints_of g (take i m.items) x) ≤ 4000000000) (sym grid) few
+
+  pub next-room : reads_in net.store.shape.grid (map constraint_of net.contractors) + reads_in net.store.shape.grid (constraints_of net.store.shape.grid (take i m.items) x) ≤ 20000000
+  next-room = subst (λ (g : List ℕ). reads_in g (map constraint_of net.contractors) + reads_in g (constraints_of g (take i m.items) x) ≤ 20000000) (sym grid) room
 
 -- ---- what satisfies the records and lay in the box before lies in the box
 

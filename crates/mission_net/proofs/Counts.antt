@@ -1,14 +1,14 @@
 -- The signals and variables of the shape are those that the records make.
 use Rattle.std.proofs.Common.{◌≡◌, ℕ, ◌+◌, ◌≤◌, List, [], ◌∷◌, ◌++◌, pos, arith, ap, ◌∙◌, length, length-append}
-use Rattle.std.proofs.lemmas.List.Sums.{sum_by-cons, sum_by_push}
+use Rattle.std.proofs.lemmas.List.Sums.{sum_by-cons}
 use Rattle.tube_spec.specs.Span.{point}
 use Rattle.tube_spec.specs.Shape.{Shape, Extends, no_shape}
-use Rattle.tube_spec.specs.Owner.{SignalIn, VariableIn, with_owner, with_owners}
+use Rattle.tube_spec.specs.Owner.{VariableIn, with_owner, with_owners}
 use Rattle.tube_spec.proofs.Hulls.{with_owners-append}
 use Rattle.mission_log.specs.declared.item.Item.{Item}
 use Rattle.mission_log.specs.declared.item.Item.TheVariants.{Head, Note, Signal, Variable, Deriv, Bound, At}
 use Rattle.mission_log.specs.Names.{signals_made, signals_in, variables_made, variables_in}
-use Rattle.mission_net.specs.Records.{made, owners, owners_from, shape_by}
+use Rattle.mission_net.specs.Records.{made, owners_from, shape_by}
 
 -- ---- those of one record
 

@@ -1,7 +1,6 @@
 -- An assignment that satisfies records has a hull that is a common fixpoint of their projections below their start.
-use Rattle.std.proofs.Common.{◌≡◌, ℕ, zero, suc, ◌+◌, ◌-◌, ◌<◌, ◌≤◌, Option, Some, None, List, [], ◌∷◌, ◌++◌, ℤ, ◌+ℤ◌, pos, arith, refl, sym, ap, subst, ◌∙◌, length, All, slice_index, length-append, append-nil, append_assoc, flat_map, sum_by}
+use Rattle.std.proofs.Common.{◌≡◌, ℕ, suc, ◌+◌, ◌-◌, ◌<◌, ◌≤◌, Option, Some, None, List, [], ◌∷◌, ◌++◌, ℤ, ◌+ℤ◌, pos, arith, sym, ap, subst, ◌∙◌, length, All, slice_index, length-append, append_assoc, flat_map}
 use Rattle.std.proofs.lemmas.List.Elements.{All-from_recursion, All-append, All-nil}
-use Rattle.std.proofs.lemmas.List.Concat.{flat_map-append}
 use Rattle.std.proofs.lemmas.List.Sums.{sum_by_push}
 use Rattle.std.proofs.lemmas.Int.{ints}
 use Rattle.tube_spec.specs.Span.{Span, Holds, point}
@@ -11,16 +10,16 @@ use Rattle.tube_spec.specs.Box.{IsBelow, IsBelowBox}
 use Rattle.tube_spec.specs.Projection.{IsStable}
 use Rattle.tube_spec.specs.Fixpoint.{IsFixpoint}
 use Rattle.tube_spec.specs.Assignment.{Assignment, value_at, number_of, IsRate}
-use Rattle.tube_spec.specs.Owner.{Owner, SignalIn, VariableIn, with_owner, with_owners, shape_of, hull_box, AreInRange}
+use Rattle.tube_spec.specs.Owner.{Owner, with_owner, with_owners, hull_box, AreInRange}
 use Rattle.tube_spec.proofs.Prefixes.{Extends-refl, Extends-trans}
-use Rattle.tube_spec.proofs.Hulls.{with_owners-append, owners-extend, hull_box-is, owners-box, owners-below}
+use Rattle.tube_spec.proofs.Hulls.{hull_box-is, owners-box, owners-below}
 use Rattle.tube_spec.proofs.Ticks.{last-greatest}
 use Rattle.ctc_deriv.specs.BoundLaws.{All-each_below}
 use Rattle.mission_log.specs.declared.item.Item.{Item}
 use Rattle.mission_log.specs.declared.item.Item.TheVariants.{Head, Note, Signal, Variable, Deriv, Bound, At}
 use Rattle.mission_log.specs.Names.{signals_made, signals_in, variables_in}
 use Rattle.mission_log.specs.Valid.{IsRight, AreRightFrom, AreRight}
-use Rattle.mission_net.specs.Constraints.{Constraint, SliceOf, DerivOf, BoundOf, constraint_projections, IsOf, Satisfies}
+use Rattle.mission_net.specs.Constraints.{SliceOf, DerivOf, BoundOf, constraint_projections, IsOf, Satisfies}
 use Rattle.mission_net.specs.Records.{made, owners, owners_from, shape_by, start, constraints_of, constraints_from, constraints, projections, IsSection, IsEnclosure, Encloses, Says, SatisfiesFrom, SatisfiesAll}
 use Rattle.mission_net.proofs.Stable.{constraint-stable}
 use Rattle.mission_net.proofs.Shapes.{shape-snoc, shape-extends, shape-grid}

@@ -1,25 +1,27 @@
 -- Records and further records: shapes, starts, constraints, and how much room they take.
-use Rattle.std.proofs.Common.{◌≡◌, ℕ, zero, suc, ◌+◌, ◌-◌, ◌*◌, ◌<◌, ◌≤◌, List, [], ◌∷◌, ◌++◌, pos, arith, refl, sym, ap, subst, ◌∙◌, length, take, get_or, flat_map, length-append, append-nil, append_assoc, sum_by, map, ap₂}
+use Rattle.std.proofs.Common.{◌≡◌, ℕ, zero, suc, ◌+◌, ◌-◌, ◌*◌, ◌<◌, ◌≤◌, List, [], ◌∷◌, ◌++◌, arith, refl, sym, ap, subst, ◌∙◌, length, take, get_or, flat_map, length-append, append-nil, append_assoc, map, ap₂, Option, Some, None, slice_index}
 use Rattle.std.proofs.Math.Nat.{add-mul}
 use Rattle.std.proofs.Math.ListN.{length-replicate}
 use Rattle.std.proofs.lemmas.List.Concat.{flat_map-append}
+use Rattle.std.proofs.lemmas.List.{length-map}
+use Rattle.std.specs.List.{concat}
 use Rattle.std.proofs.lemmas.List.Sums.{sum_by-append, sum_by-cons, sum_by_push}
-use Rattle.tube_spec.specs.Span.{point}
+use Rattle.tube_spec.specs.Span.{Span}
 use Rattle.tube_spec.specs.Shape.{Shape, IsShape, no_shape, with_signal, with_var}
-use Rattle.tube_spec.specs.Owner.{Owner, SignalIn, VariableIn, declared_cells, start_of, with_owner, with_owners}
+use Rattle.tube_spec.specs.Owner.{Owner, SignalIn, VariableIn, declared_cells, start_of, with_owners}
 use Rattle.tube_spec.proofs.Prefixes.{IsShape-signal, IsShape-var}
 use Rattle.tube_spec.proofs.Hulls.{owners-extend, with_owners-append}
 use Rattle.mission_log.specs.declared.item.Item.{Item}
 use Rattle.mission_log.specs.declared.item.Item.TheVariants.{Head, Note, Signal, Variable, Deriv, Bound, At}
 use Rattle.mission_log.specs.Names.{signals_made, signals_in, variables_made, variables_in}
-use Rattle.mission_log.specs.Room.{cells_of, foot_of, feet_from, feet_of, slices_in}
+use Rattle.mission_log.specs.Room.{cells_of, foot_of, feet_from}
 use Rattle.mission_log.specs.Valid.{IsRight, AreRightFrom}
 use Rattle.ctc_deriv.specs.Bounds.{each_below}
 use Rattle.ctc_eval.specs.Near.{near_of, places_of}
 use Rattle.ctc_eval.specs.Evals.{cells_near, rate_scope}
 use Rattle.ctc_delay.specs.Places.{place_count, signal_cells}
 use Rattle.ctc_delay.specs.DelayLaws.{length-each_place}
-use Rattle.ctc_dist.specs.Points.{cells_of}
+use Rattle.ctc_dist.specs.Points.{cells_of as point_cells}
 use Rattle.mission_net.specs.Constraints.{Constraint, SliceOf, DerivOf, BoundOf, EvalOf, DelayToOf, DelayFromOf, DelayShiftOf, DistOf, ConstellOf, constraint_scope, reads_near, rate_reads, reads_of, reads_in}
 use Rattle.mission_net.specs.declared.AnyCtc.{AnyCtc}
 use Rattle.mission_net.specs.Contractors.{constraint_of, any_scope}
@@ -153,12 +155,12 @@ rate-length s (Some rate) declared = near-length s declared rate
 signal-length : (grid : List ℕ) (first : ℕ) → length (signal_cells grid first) ≡ place_count grid
 signal-length grid first = length-each_place grid (λ (place : ℕ). first + place)
 
-concat-length : (s : Shape) (marks : List (List ℕ)) → length (concat (map (cells_of s) marks)) ≡ length (concat marks)
+concat-length : (s : Shape) (marks : List (List ℕ)) → length (concat (map (point_cells s) marks)) ≡ length (concat marks)
 concat-length s [] = refl
 concat-length s (m ∷ ms) =
-    length-append (cells_of s m) (concat (map (cells_of s) ms)) ∙ ap₂ (λ (a b : ℕ). a + b) (length-map m (slice_index s.vars)) (concat-length s ms) ∙ sym (length-append m (concat ms))
+    length-append (point_cells s m) (concat (map (point_cells s) ms)) ∙ ap₂ (λ (a b : ℕ). a + b) (length-map m (slice_index s.vars)) (concat-length s ms) ∙ sym (length-append m (concat ms))
 
-scope-length : (s : Shape) (c : Constraint) → length (constraint_scope s c) ≡ reads_of s.grid c
+pub scope-length : (s : Shape) (c : Constraint) → length (constraint_scope s c) ≡ reads_of s.grid c
 scope-length s (SliceOf signal i) = refl
 scope-length s (DerivOf x rate i) = refl
 scope-length s (BoundOf x first last range) = refl
@@ -181,9 +183,9 @@ scope-length s (DelayShiftOf x y tau) =
       signal-length s.grid (slice_index s.signals y),
     )
 scope-length s (DistOf p b near far) =
-    omega (arith, length-append (cells_of s p) (cells_of s b), length-map p (slice_index s.vars), length-map b (slice_index s.vars))
+    omega (arith, length-append (point_cells s p) (point_cells s b), length-map p (slice_index s.vars), length-map b (slice_index s.vars))
 scope-length s (ConstellOf p marks) =
-    omega (arith, length-append (cells_of s p) (concat (map (cells_of s) marks)), length-map p (slice_index s.vars), concat-length s marks)
+    omega (arith, length-append (point_cells s p) (concat (map (point_cells s) marks)), length-map p (slice_index s.vars), concat-length s marks)
 
 -- what a net's contractors read, by their constraints
 pub net-reads : (s : Shape) (cs : List AnyCtc) → entries_of any_scope s cs ≡ reads_in s.grid (map constraint_of cs)

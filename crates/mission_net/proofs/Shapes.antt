@@ -1,6 +1,6 @@
 -- What records and further records make of a shape.
-use Rattle.std.proofs.Common.{◌≡◌, ℕ, List, [], ◌∷◌, ◌++◌, refl, sym, ap, subst, ◌∙◌, append-nil, append_assoc}
-use Rattle.tube_spec.specs.Shape.{Shape, Extends, no_shape}
+use Rattle.std.proofs.Common.{◌≡◌, ℕ, List, [], ◌∷◌, ◌++◌, sym, ap, subst, ◌∙◌, append-nil, append_assoc}
+use Rattle.tube_spec.specs.Shape.{Extends, no_shape}
 use Rattle.tube_spec.specs.Owner.{Owner, with_owners, shape_of}
 use Rattle.tube_spec.proofs.Hulls.{with_owners-append, owners-extend}
 use Rattle.mission_log.specs.declared.item.Item.{Item}

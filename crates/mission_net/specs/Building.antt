@@ -1,7 +1,6 @@
 -- What a net holds of the records that were built, and what settling makes of it.
-use Rattle.std.specs.Prelude.{◌≡◌, ℕ, List, ◌++◌, Option, Some, Bool, true, map, replicate, length, IsSome, IsNone, IsSomeAnd, ◌+◌, ◌≤◌, slice_get}
+use Rattle.std.specs.Prelude.{◌≡◌, ℕ, List, ◌++◌, Option, Some, true, map, replicate, length, IsSome, IsNone, IsSomeAnd, ◌+◌, ◌≤◌, slice_get}
 use Rattle.tube_spec.specs.Span.{Span}
-use Rattle.tube_spec.specs.Shape.{Shape}
 use Rattle.tube_spec.specs.Box.{IsBelowBox, box_more, measure_of}
 use Rattle.tube_spec.specs.Fixpoint.{IsFixpoint}
 use Rattle.tube_spec.specs.Owner.{Owner, with_owners, start_of}
@@ -10,7 +9,7 @@ use Rattle.ctc_network.specs.declared.answers.Settled.{Settled}
 use Rattle.ctc_network.specs.declared.answers.Settled.TheVariants.{Fixpoint, Empty, Spent}
 use Rattle.mission_log.specs.declared.item.Item.{Item}
 use Rattle.mission_net.specs.Constraints.{Constraint, constraint_projections}
-use Rattle.mission_net.specs.Records.{made, shape_by, start, constraints_of, constraints, IsSection, IsEnclosure}
+use Rattle.mission_net.specs.Records.{shape_by, start, constraints, IsSection, IsEnclosure}
 use Rattle.mission_net.specs.declared.AnyCtc.{AnyCtc}
 use Rattle.mission_net.specs.Contractors.{constraint_of}
 

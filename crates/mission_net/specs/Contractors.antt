@@ -2,7 +2,7 @@
 use Rattle.std.specs.Prelude.{ℕ, List, map}
 use Rattle.tube_spec.specs.Shape.{Shape}
 use Rattle.tube_spec.specs.Projection.{Projection}
-use Rattle.ctc_eval.specs.Evals.{rate_of}
+use Rattle.ctc_eval.specs.Held.{rate_of}
 use Rattle.ctc_dist.specs.Points.{numbers}
 use Rattle.mission_net.specs.Constraints.{Constraint, SliceOf, DerivOf, BoundOf, EvalOf, DelayToOf, DelayFromOf, DelayShiftOf, DistOf, ConstellOf, constraint_projections, constraint_scope}
 use Rattle.mission_net.specs.declared.AnyCtc.{AnyCtc}

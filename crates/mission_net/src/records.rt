@@ -1,5 +1,6 @@
 ghost use Rattle.std.specs.Prelude.{◌≡◌, ◌+◌, ◌-◌, ◌*◌, ◌<◌, ◌≤◌, [], ◌∷◌, ◌++◌, ℕ, List, Some, OnOk, OnErr, IfOk, length, map, take, drop, sum_by, pos};
 ghost use Rattle.tube_spec.specs.Span.{IsBounded, point};
+ghost use Rattle.tube_spec.specs.Grid.{last_tick};
 ghost use Rattle.tube_spec.specs.Box.{IsBelowBox};
 ghost use Rattle.tube_spec.specs.Fixpoint.{IsFixpoint};
 ghost use Rattle.tube_spec.specs.Assignment.{Assignment};
@@ -112,7 +113,8 @@ fn add_evaluated(net: &mut Net<AnyCtc>, tick: u32, range: Interval) -> Result<()
 
 /// Adds the cells and the contractors of a record, after the records before it.
 fn add_item(net: &mut Net<AnyCtc>, before: &[Item], item: &Item) -> Result<(), NoMemory>
-    requires right { IsRight 100000 before.now item.now }
+    requires clock { last_tick net.old.store.shape.grid ≤ 100000 }
+    requires right { IsRight (last_tick net.old.store.shape.grid) before.now item.now }
     requires signals { length net.old.store.shape.signals ≡ signals_in before.now }
     requires cells { (with_owners net.old.store.shape (made before.now item.now)).cells ≤ 2000000 }
     requires few { length net.old.contractors + length (constraints_of net.old.store.shape.grid before.now item.now) ≤ 4000000000 }

@@ -1,8 +1,5 @@
-use Rattle.std.proofs.Common.{◌≡◌, ℕ, List, Option, Some, arith, sym, ap, subst, ◌∙◌, take, drop}
-use Rattle.tube_spec.specs.Span.{Span}
-use Rattle.tube_spec.specs.Shape.{Shape, IsShape, no_shape}
-use Rattle.tube_spec.specs.Box.{box_more, measure_of}
-use Rattle.tube_spec.specs.Owner.{start_of}
+use Rattle.std.proofs.Common.{ap, ◌∙◌, take, drop}
+use Rattle.tube_spec.specs.Box.{measure_of}
 use Rattle.tube_store.specs.State.{State}
 use Rattle.mission_net.specs.Records.{constraints_from}
 use Rattle.mission_net.proofs.Sections.{section-is, section-holds, section-covers, mission-grid, mission-cells, built-box, spent-as}
