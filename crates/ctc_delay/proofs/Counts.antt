@@ -1,8 +1,7 @@
 -- How many projections the contractors have and how many cells they read, and which.
-use Rattle.std.proofs.Common.{◌≡◌, ℕ, ◌+◌, ◌-◌, ◌*◌, ◌<◌, ◌≤◌, List, [], ◌∷◌, ◌++◌, arith, refl, ap, subst, ◌∙◌, length, length-append, get_or, slice_index, get_or-append-add}
+use Rattle.std.proofs.Common.{◌≡◌, ℕ, ◌+◌, ◌*◌, ◌<◌, List, [], ◌∷◌, ◌++◌, arith, ap, subst, ◌∙◌, length, length-append, slice_index, get_or-append-add}
 use Rattle.std.proofs.Math.ListN.{get_or-append}
 use Rattle.tube_spec.specs.Shape.{Shape}
-use Rattle.tube_spec.specs.Projection.{Projection}
 use Rattle.ctc_core.specs.Given.{projection_at, no_projection}
 use Rattle.ctc_delay.specs.Places.{place_count, signal_cells}
 use Rattle.ctc_delay.specs.Delays.{delay_to_at, delay_from_at, delay_to_projections, delay_from_projections, delay_to_scope, delay_from_scope, delay_shift_scope}

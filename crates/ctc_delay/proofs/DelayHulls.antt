@@ -1,18 +1,16 @@
 -- The hulls over ticks and delays as hulls over ticks alone.
-use Rattle.std.proofs.Common.{◌≡◌, ℕ, zero, suc, ◌+◌, ◌-◌, ◌<◌, ◌≤◌, ◌⊎◌, inl, inr, Bool, true, false, ◌&&◌, cond, Option, Some, None, List, ℤ, pos, ◌≤ℤ◌, arith, refl, sym, ap, subst, ◌∙◌, IsSome, IfSome}
+use Rattle.std.proofs.Common.{◌≡◌, ℕ, ◌+◌, ◌-◌, ◌<◌, ◌≤◌, ◌⊎◌, inl, inr, Bool, true, false, Option, Some, None, pos, ◌≤ℤ◌, arith, refl, sym, ap, subst}
 use Rattle.std.specs.Int.{int_min, int_max}
 use Rattle.std.proofs.lemmas.Bool.{cases_lt}
 use Rattle.std.proofs.lemmas.Int.{ints, clamps}
-use Rattle.tube_spec.specs.Span.{Span, IsProper, IsWithin, IsBounded, point, meet_of}
-use Rattle.tube_spec.specs.Hull.{hull_below, IsWithinOption}
-use Rattle.tube_spec.specs.Grid.{last_tick}
+use Rattle.tube_spec.specs.Span.{Span, IsWithin}
+use Rattle.tube_spec.specs.Hull.{IsWithinOption}
 use Rattle.tube_spec.specs.Tick.{join_over}
-use Rattle.tube_spec.proofs.Spans.{same_span}
 use Rattle.tube_spec.proofs.Families.{join_over-holds, join_over-least}
 use Rattle.int_interval.proofs.Hulls.{same_hull}
-use Rattle.ctc_delay.specs.Delays.{lies_in, delayed_hull, at_tick_from, shares, passes_over, is_possible, possible_hull}
-use Rattle.ctc_delay.specs.Ranges.{AreDelays, AreNoDelays, IsLeastOf, IsGreatestOf}
-use Rattle.ctc_delay.specs.Hulls.{and-left, and-right, and-both, lies_in-holds, holds-lies_in, shares-proper, proper-shares, passes-all, counted-hull-holds, counted-hull-least, delayed-holds_at, delayed-least}
+use Rattle.ctc_delay.specs.Delays.{lies_in, delayed_hull}
+use Rattle.ctc_delay.specs.Ranges.{AreDelays, AreNoDelays}
+use Rattle.ctc_delay.specs.Hulls.{lies_in-holds, holds-lies_in, delayed-holds_at, delayed-least}
 
 -- the delays of a span that is cut to the ticks
 pub delays-are : (tau : Span) (last m n : ℕ) → pos m ≡ int_max tau.lo (pos 0) → pos n ≡ int_min tau.hi (pos last) → m ≤ n → AreDelays tau last m n

@@ -1,10 +1,10 @@
 -- The definitions tried on numbers.
-use Rattle.std.proofs.Common.{◌≡◌, ℕ, Some, None, Option, List, [], ◌∷◌, ◌++◌, ℤ, pos, negsuc, refl, length, map}
+use Rattle.std.proofs.Common.{◌≡◌, ℕ, List, [], ◌∷◌, ◌++◌, ℤ, pos, negsuc, refl, map}
 use Rattle.tube_spec.specs.Span.{Span, point}
 use Rattle.tube_spec.specs.Narrowing.{Narrowing, Whole, Nothing, Within}
 use Rattle.tube_spec.specs.Shape.{Shape, no_shape, with_signal, with_var}
 use Rattle.tube_spec.specs.Projection.{Projection}
-use Rattle.ctc_delay.specs.Delays.{delayed_hull, possible_hull, delay_to_projections, delay_from_projections, delay_shift_projections, delay_to_scope, delay_from_scope, delay_shift_scope}
+use Rattle.ctc_delay.specs.Delays.{delay_to_projections, delay_from_projections, delay_shift_projections, delay_to_scope, delay_from_scope, delay_shift_scope}
 
 abbrev from : ℤ → ℤ → Span
 from lo hi = record { lo = lo; hi = hi }

@@ -1,5 +1,5 @@
 -- What the formulas give of the readings of a box.
-use Rattle.std.proofs.Common.{◌≡◌, ℕ, ◌+◌, ◌-◌, ◌<◌, ◌≤◌, Bool, true, false, cond, List, Option, ℤ, pos, ◌+ℤ◌, ◌≤ℤ◌, int_le, arith, refl, sym, ap, subst, ◌∙◌, length, slice_index}
+use Rattle.std.proofs.Common.{◌≡◌, ℕ, ◌+◌, ◌-◌, ◌<◌, Bool, true, false, cond, List, Option, ℤ, pos, ◌+ℤ◌, ◌≤ℤ◌, int_le, refl, sym, ap, subst, ◌∙◌, length, slice_index}
 use Rattle.tube_spec.specs.Span.{Span}
 use Rattle.tube_spec.specs.Narrowing.{Narrowing, Whole, narrowing_of}
 use Rattle.tube_spec.specs.Grid.{last_tick}

@@ -1,5 +1,5 @@
 -- The places of a signal's cells: which are gates and which envelopes, and the ticks of each.
-use Rattle.std.proofs.Common.{◌≡◌, ℕ, ◌+◌, ◌-◌, ◌*◌, ◌/◌, ◌<◌, ◌≤◌, ◌⊎◌, inl, inr, List, arith, ap, sym, subst, length, slice_index}
+use Rattle.std.proofs.Common.{◌≡◌, ℕ, ◌+◌, ◌*◌, ◌/◌, ◌<◌, ◌≤◌, ◌⊎◌, inl, inr, List, arith, sym, subst, slice_index}
 use Rattle.tube_spec.specs.Grid.{IsGrid, last_tick}
 use Rattle.tube_spec.proofs.Ticks.{last-greatest}
 use Rattle.ctc_delay.specs.Places.{place_count, place_first, place_last}

@@ -1,18 +1,15 @@
 -- The possible delays: which they are, and their hull.
-use Rattle.std.proofs.Common.{◌≡◌, ℕ, zero, suc, ◌+◌, ◌-◌, ◌<◌, ◌≤◌, ◌⊎◌, inl, inr, Bool, true, false, ◌&&◌, cond, Option, Some, None, List, ℤ, pos, ◌≤ℤ◌, arith, refl, sym, ap, subst, ◌∙◌, IsSome, IfSome}
-use Rattle.std.specs.Int.{int_min, int_max}
+use Rattle.std.proofs.Common.{◌≡◌, ℕ, zero, suc, ◌+◌, ◌-◌, ◌<◌, ◌≤◌, inl, inr, Bool, true, false, ◌&&◌, cond, Option, Some, None, List, ℤ, pos, arith, refl, sym, ap, subst, ◌∙◌, IsSome, IfSome}
 use Rattle.std.proofs.lemmas.Bool.{cases_lt}
-use Rattle.std.proofs.lemmas.Int.{ints, clamps}
-use Rattle.tube_spec.specs.Span.{Span, IsProper, IsWithin, IsBounded, point, meet_of}
+use Rattle.std.proofs.lemmas.Int.{ints}
+use Rattle.tube_spec.specs.Span.{Span, IsProper, IsBounded, point, meet_of}
 use Rattle.tube_spec.specs.Hull.{hull_below, IsWithinOption}
 use Rattle.tube_spec.specs.Grid.{last_tick}
-use Rattle.tube_spec.specs.Tick.{join_over}
 use Rattle.tube_spec.proofs.Spans.{same_span}
-use Rattle.tube_spec.proofs.Families.{join_over-holds, join_over-least}
 use Rattle.int_interval.proofs.Hulls.{same_hull}
-use Rattle.ctc_delay.specs.Delays.{lies_in, delayed_hull, at_tick_from, shares, passes_over, is_possible, possible_hull}
+use Rattle.ctc_delay.specs.Delays.{lies_in, at_tick_from, shares, passes_over, is_possible}
 use Rattle.ctc_delay.specs.Ranges.{AreDelays, AreNoDelays, IsLeastOf, IsGreatestOf}
-use Rattle.ctc_delay.specs.Hulls.{and-left, and-right, and-both, lies_in-holds, holds-lies_in, shares-proper, proper-shares, passes-all, counted-hull-holds, counted-hull-least, delayed-holds_at, delayed-least}
+use Rattle.ctc_delay.specs.Hulls.{and-left, and-right, and-both, shares-proper, proper-shares, passes-all, counted-hull-holds, counted-hull-least}
 use Rattle.ctc_delay.proofs.DelayHulls.{no-delay}
 
 pub IfSome-map3 : {X : Type 0} (P Q R S : X → Type 0) (b : Option X) → ((x : X) → P x → Q x → R x → S x) → IfSome b P → IfSome b Q → IfSome b R → IfSome b S

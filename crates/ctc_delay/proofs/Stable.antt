@@ -1,15 +1,15 @@
 -- The hull of an assignment is stable under the projections of each delay that the assignment satisfies.
-use Rattle.std.proofs.Common.{◌≡◌, ℕ, ◌+◌, ◌-◌, ◌*◌, ◌/◌, ◌<◌, ◌≤◌, ◌⊎◌, inl, inr, Bool, true, false, ◌&&◌, cond, List, [], ◌∷◌, Option, Some, None, ℤ, pos, ◌+ℤ◌, int_le, arith, refl, sym, ap, subst, ◌∙◌, length, All, slice_index}
+use Rattle.std.proofs.Common.{◌≡◌, ℕ, ◌+◌, ◌-◌, ◌/◌, ◌<◌, ◌≤◌, inl, inr, Bool, true, false, ◌&&◌, cond, List, Option, Some, None, ℤ, pos, ◌+ℤ◌, int_le, arith, refl, sym, ap, subst, ◌∙◌, length, All, slice_index}
 use Rattle.std.proofs.lemmas.List.Elements.{All-from_recursion}
 use Rattle.std.proofs.lemmas.Int.{ints, clamps}
 use Rattle.tube_spec.specs.Span.{Span, IsWithin, point}
 use Rattle.tube_spec.specs.Hull.{IsWithinOption}
-use Rattle.tube_spec.specs.Narrowing.{Narrowing, Whole, IsUnder, narrowing_of}
+use Rattle.tube_spec.specs.Narrowing.{Whole, IsUnder, narrowing_of}
 use Rattle.tube_spec.specs.Grid.{IsGrid, last_tick}
 use Rattle.tube_spec.specs.Shape.{Shape, gate_cell, envelope_cell, slice_width}
 use Rattle.tube_spec.specs.Box.{cell_at}
 use Rattle.tube_spec.specs.Projection.{IsStable}
-use Rattle.tube_spec.specs.Assignment.{Assignment, value_at, number_of, hull_over, IsHull}
+use Rattle.tube_spec.specs.Assignment.{Assignment, value_at, IsHull}
 use Rattle.tube_spec.proofs.Spans.{IsWithinOption-trans}
 use Rattle.tube_spec.proofs.Assignments.{over-least-option}
 use Rattle.tube_spec.proofs.Ticks.{at_tick-hull}

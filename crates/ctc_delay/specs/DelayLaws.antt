@@ -1,15 +1,15 @@
 -- The laws of the delay constraint as three contractors, over plain numbers.
-use Rattle.std.proofs.Common.{◌≡◌, ℕ, suc, ◌+◌, ◌*◌, ◌-◌, ◌<◌, Bool, true, ◌&&◌, cond, List, [], ◌∷◌, ◌++◌, Option, Some, None, pos, ◌+ℤ◌, int_le, arith, refl, sym, ap, ap₂, subst, ◌∙◌, length, length-append, All, Contains, get_or, slice_index}
+use Rattle.std.proofs.Common.{◌≡◌, ℕ, ◌+◌, ◌-◌, ◌<◌, ◌&&◌, cond, List, [], ◌∷◌, ◌++◌, Option, pos, ◌+ℤ◌, int_le, arith, refl, sym, ap, ap₂, subst, ◌∙◌, length, length-append, All, Contains, get_or, slice_index}
 use Rattle.std.proofs.Math.ListN.{get_or-append}
 use Rattle.std.proofs.lemmas.Int.{ints}
 use Rattle.std.proofs.lemmas.List.Elements.{All-from_recursion, All-append, Contains-append_left, Contains-append_right}
 use Rattle.std.proofs.lemmas.List.FromFn.{length-map-range_with_len, get_or-map-range_with_len}
 use Rattle.tube_spec.specs.Span.{Span, IsWithin, point}
-use Rattle.tube_spec.specs.Hull.{hull_below, IsWithinOption}
-use Rattle.tube_spec.specs.Narrowing.{Narrowing, Whole, narrowing_of}
+use Rattle.tube_spec.specs.Hull.{IsWithinOption}
+use Rattle.tube_spec.specs.Narrowing.{Whole, narrowing_of}
 use Rattle.tube_spec.specs.Grid.{last_tick}
 use Rattle.tube_spec.specs.Shape.{Shape, IsShape, Extends}
-use Rattle.tube_spec.specs.Box.{cell_at, IsBelow}
+use Rattle.tube_spec.specs.Box.{cell_at}
 use Rattle.tube_spec.specs.Tick.{tick_place}
 use Rattle.tube_spec.specs.Projection.{Projection, IsMonotone, ReadsOnly}
 use Rattle.tube_spec.proofs.Spans.{IsWithin-refl, narrowing_of-mono}

@@ -25,7 +25,8 @@ lies_in s d = int_le s.lo (pos d) && int_le (pos d) s.hi
 abbrev pub delayed_hull : (ℕ → ℕ → Span) → Span → ℕ → ℕ → ℕ → Option Span
 delayed_hull f tau last a b = hull_below (λ i. hull_below (λ d. cond (lies_in tau d) (Some (f (a + i) d)) None) (last + 1)) (b - a + 1)
 
--- The cell of y at a place, over the ticks a to b, lies in the hull of X(k - d), where no delay in tau is above a.
+-- The cell of y at a place, over the ticks a to b, lies in the hull of X(k - d) over the ticks k and the delays d,
+-- where the upper bound of tau, as it stands in the box, is at most a.
 abbrev pub delay_to_at : List ℕ → ℕ → ℕ → ℕ → ℕ → Projection
 delay_to_at grid x y tau place = record {
   target = y + place;
@@ -34,7 +35,8 @@ delay_to_at grid x y tau place = record {
       Whole;
 }
 
--- The cell of x at a place, over the ticks a to b, lies in the hull of Y(j + d), where no delay in tau leads from b past the last tick.
+-- The cell of x at a place, over the ticks a to b, lies in the hull of Y(j + d) over the ticks j and the delays d,
+-- where b and the upper bound of tau, as it stands in the box, add up to at most the last tick.
 abbrev pub delay_from_at : List ℕ → ℕ → ℕ → ℕ → ℕ → Projection
 delay_from_at grid x y tau place = record {
   target = x + place;

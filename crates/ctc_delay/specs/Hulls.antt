@@ -1,7 +1,7 @@
 -- Hulls over ticks and delays: what lies in them, and that they are the least.
-use Rattle.std.proofs.Common.{◌≡◌, ℕ, zero, suc, ◌+◌, ◌-◌, ◌<◌, ◌≤◌, Bool, true, false, ◌&&◌, cond, Option, Some, None, ℤ, pos, ◌≤ℤ◌, int_le, arith, refl, sym, ap, subst, ◌∙◌}
-use Rattle.std.proofs.lemmas.Int.{ints, clamps}
-use Rattle.tube_spec.specs.Span.{Span, IsProper, IsWithin, Holds, point, meet_of}
+use Rattle.std.proofs.Common.{◌≡◌, ℕ, zero, suc, ◌+◌, ◌-◌, ◌<◌, ◌≤◌, Bool, true, false, ◌&&◌, cond, Option, Some, None, ℤ, pos, ◌≤ℤ◌, int_le, arith, refl, subst}
+use Rattle.std.proofs.lemmas.Int.{ints}
+use Rattle.tube_spec.specs.Span.{Span, IsProper, IsWithin, Holds, meet_of}
 use Rattle.tube_spec.specs.Hull.{hull_below, IsWithinOption}
 use Rattle.tube_spec.specs.Narrowing.{Narrowing, Whole, Nothing, Within, IsWithinNarrowing, narrowing_of}
 use Rattle.tube_spec.proofs.Spans.{IsWithinOption-refl, IsWithinOption-trans, hull-holds, hull-mono, meet-mono, narrowing_of-mono}

@@ -3,9 +3,11 @@
 //! For a variable `tau` of some number `d` of ticks from 0 to the last tick `T`, `y(k) = x(k - d)` at each tick `k` from `d` to `T`:
 //!
 //! ```text
-//!   x  |--------------------------|          ticks 0 to T - d
-//!            \                         \
-//!   y         |--------------------------|   ticks d to T
+//!       0               T - d
+//!   x   |-----------------|
+//!        \                 \
+//!   y      |-----------------|
+//!          d                 T     ticks
 //! ```
 //!
 //! - [`DelayTo`]: forward, the cells of `y` from the cells of `x`;

@@ -1,6 +1,5 @@
-use Rattle.std.proofs.Common.{◌≡◌, ◌+◌, ℕ, ◌≤◌, List, Some, arith, sym, ap, subst, ◌∙◌, slice_index, IfSome}
+use Rattle.std.proofs.Common.{◌≡◌, ◌+◌, ℕ, Some, arith, ap, subst, ◌∙◌, slice_index}
 use Rattle.std.proofs.lemmas.Int.{ints}
-use Rattle.tube_spec.specs.Span.{Span}
 use Rattle.tube_spec.specs.Grid.{last_tick}
 use Rattle.tube_spec.proofs.Monotone.{IfSome-map, IfSome-any}
 use Rattle.ctc_delay.specs.Delays.{at_tick_from}

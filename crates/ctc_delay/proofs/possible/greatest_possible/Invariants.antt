@@ -1,4 +1,4 @@
-use Rattle.std.proofs.Common.{◌≡◌, ℕ, ◌<◌, ◌≤◌, false, IfSome, slice_index}
+use Rattle.std.proofs.Common.{◌≡◌, ℕ, ◌≤◌, false, IfSome, slice_index}
 use Rattle.ctc_delay.specs.Delays.{is_possible}
 use Rattle.ctc_delay.proofs.possible.greatest_possible.Given as goal
 

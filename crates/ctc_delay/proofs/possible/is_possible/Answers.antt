@@ -1,8 +1,7 @@
-use Rattle.std.proofs.Common.{◌≡◌, ◌-◌, ℕ, ◌<◌, ◌≤◌, IfSome, arith, rules, ap, ◌∙◌, slice_index}
+use Rattle.std.proofs.Common.{◌≡◌, arith, ap, ◌∙◌, slice_index}
 use Rattle.tube_spec.specs.Span.{IsProper, meet_of}
 use Rattle.tube_spec.specs.Grid.{last_tick}
 use Rattle.tube_spec.proofs.Monotone.{IfSome-map, IfSome-map2}
-use Rattle.ctc_delay.specs.Delays.{at_tick_from}
 use Rattle.ctc_delay.proofs.PossibleDelays.{IfSome-map3, not-possible, shares-more, possible-all}
 use Rattle.ctc_delay.proofs.possible.is_possible.Goals as goal
 

@@ -1,6 +1,5 @@
-use Rattle.std.proofs.Common.{◌≡◌, ℕ, ◌<◌, ◌≤◌, Option, None, Some, List, IfSome, arith, ap, subst, sym, ◌∙◌, slice_index}
-use Rattle.std.proofs.lemmas.Int.{ints, to_z_pos}
-use Rattle.tube_spec.specs.Span.{Span}
+use Rattle.std.proofs.Common.{◌≡◌, ℕ, ◌≤◌, None, Some, arith, ap, subst, ◌∙◌, slice_index}
+use Rattle.std.proofs.lemmas.Int.{ints}
 use Rattle.tube_spec.specs.Grid.{last_tick}
 use Rattle.tube_spec.proofs.Monotone.{IfSome-map, IfSome-map2, IfSome-any}
 use Rattle.ctc_delay.specs.Delays.{is_possible}

@@ -1,4 +1,4 @@
-use Rattle.std.proofs.Common.{arith, ◌∙◌}
+use Rattle.std.proofs.Common.{arith}
 use Rattle.std.proofs.lemmas.Int.{ints}
 use Rattle.tube_spec.proofs.Monotone.{IfSome-map, IfSome-map2}
 use Rattle.ctc_delay.proofs.Counts.{length-to}
