@@ -4,7 +4,7 @@ use Rattle.tube_spec.specs.Span.{Span, point}
 use Rattle.tube_spec.specs.Narrowing.{Narrowing, Nothing, Within}
 use Rattle.tube_spec.specs.Projection.{Projection}
 use Rattle.ctc_core.specs.Given.{projection_at}
-use Rattle.ctc_constell.specs.Constellations.{boxes_meet, left_by, constell_projections_at}
+use Rattle.ctc_constell.specs.Constellations.{left_by, constell_projections_at}
 
 abbrev from : ℤ → ℤ → Span
 from lo hi = record { lo = lo; hi = hi }

@@ -1,6 +1,6 @@
 -- What the code finds of two boxes: whether they meet, and what that leaves.
-use Rattle.std.proofs.Common.{◌≡◌, ◌&&◌, ◌⊎◌, inl, inr, ℕ, zero, suc, ◌<◌, Bool, true, false, cond, Option, Some, None, List, [], ◌∷◌, arith, refl, sym, ap, ap₂, subst, ◌∙◌, length, slice_index, slice_index_or, slice_get, pos, ◌+◌, ◌≢◌, set, get_or-set_same, get_or-set_other}
-use Rattle.std.proofs.lemmas.Int.{ints, clamps}
+use Rattle.std.proofs.Common.{◌≡◌, ◌&&◌, ◌⊎◌, inl, inr, ℕ, zero, suc, ◌<◌, Bool, true, false, cond, Some, None, List, [], ◌∷◌, arith, refl, sym, ap, ap₂, subst, ◌∙◌, length, slice_index, slice_get, pos, ◌+◌, ◌≢◌, set, get_or-set_same, get_or-set_other}
+use Rattle.std.proofs.lemmas.Int.{ints}
 use Rattle.tube_spec.specs.Span.{Span, IsProper, point, meet_of}
 use Rattle.tube_spec.specs.Box.{cell_at}
 use Rattle.int_interval.specs.Inverse.{meets}

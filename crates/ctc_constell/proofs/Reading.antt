@@ -1,10 +1,10 @@
 -- What the code reads of its variables, and the places of the projections.
 use Rattle.std.proofs.Common.{◌≡◌, ℕ, zero, suc, ◌+◌, ◌*◌, ◌-◌, ◌/◌, ◌%◌, ◌<◌, ◌≤◌, Option, List, [], ◌∷◌, ◌++◌, add-one, mul_comm, IfSome, Some, None, arith, refl, sym, ap, ap₂, subst, ◌∙◌, length, slice_index, slice_index_or, map, All, length-append}
-use Rattle.std.specs.List.{range_with_len, concat}
+use Rattle.std.specs.List.{concat}
 use Rattle.std.proofs.Math.Nat.{mul-suc, div-lt_iff_lt-mul}
 use Rattle.std.proofs.lemmas.List.{get_or-map, length-map, map-append, get_or_append_left, get_or-append_right}
 use Rattle.std.proofs.lemmas.List.Elements.{All-append, All-map}
-use Rattle.std.proofs.lemmas.List.FromFn.{length-map-range_with_len, get_or-map-range_with_len}
+use Rattle.std.proofs.lemmas.List.FromFn.{get_or-map-range_with_len}
 use Rattle.tube_spec.specs.Span.{Span}
 use Rattle.tube_spec.specs.Hull.{hull_below, join_option}
 use Rattle.tube_spec.specs.Shape.{Shape}

@@ -1,5 +1,5 @@
 -- The hull of an assignment with the point at one of the marks is stable under each projection of the constellation.
-use Rattle.std.proofs.Common.{◌≡◌, ◌&&◌, ℕ, zero, suc, ◌<◌, Bool, true, false, cond, Option, Some, None, List, [], ◌∷◌, arith, refl, sym, ap, ap₂, subst, ◌∙◌, length, map, All, slice_index, slice_index_or, ℤ}
+use Rattle.std.proofs.Common.{◌≡◌, ◌&&◌, ℕ, ◌<◌, Bool, true, false, cond, Option, Some, None, List, [], ◌∷◌, arith, refl, sym, ap, ap₂, subst, ◌∙◌, length, map, All, slice_index, ℤ}
 use Rattle.std.proofs.lemmas.Int.{ints, clamps}
 use Rattle.std.proofs.lemmas.List.{get_or-map, length-map}
 use Rattle.tube_spec.specs.Span.{Span, point, meet_of}

@@ -1,5 +1,5 @@
 -- Where the cells of points lie, that additions leave them there, and what boxes give them.
-use Rattle.std.proofs.Common.{◌≡◌, ℕ, zero, suc, ◌<◌, List, [], ◌∷◌, ◌++◌, arith, refl, sym, ap, ap₂, subst, ◌∙◌, length, slice_index, slice_index_or, map, All, Contains, length-append}
+use Rattle.std.proofs.Common.{◌≡◌, ℕ, zero, suc, ◌<◌, List, [], ◌∷◌, arith, refl, sym, ap, ap₂, subst, ◌∙◌, length, slice_index, slice_index_or, map, All, Contains, length-append}
 use Rattle.std.specs.List.{range_with_len, concat}
 use Rattle.std.proofs.Math.ListN.{get_or-append}
 use Rattle.std.proofs.lemmas.List.Elements.{All-map, All-append, All-nil, Contains-append_left, Contains-append_right}
@@ -7,7 +7,7 @@ use Rattle.std.proofs.lemmas.List.FromFn.{length-map-range_with_len, get_or-map-
 use Rattle.tube_spec.specs.Span.{Span, IsWithin, point}
 use Rattle.tube_spec.specs.Shape.{Shape, IsShape, Extends}
 use Rattle.tube_spec.specs.Box.{cell_at, IsBelow}
-use Rattle.tube_spec.specs.Assignment.{Assignment, number_of, IsHull}
+use Rattle.tube_spec.specs.Assignment.{Assignment, IsHull}
 use Rattle.tube_spec.proofs.Spans.{IsWithin-refl}
 use Rattle.interval_box.specs.Parts.{part_of}
 use Rattle.ctc_constell.specs.Points.{cells_of, box_of, place_in}

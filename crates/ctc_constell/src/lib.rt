@@ -11,8 +11,8 @@
 //!    +---------------------------+
 //! ```
 //!
-//! The contractor of a constellation is that of Codac (Rohou, Jaulin and others): "Reliable Robot Localization: A Constraint-Programming
-//! Approach over Dynamical Systems" (2019), where landmarks are indistinguishable. Here it is exact over whole numbers, box by box.
+//! The contractor of a constellation is that of Rohou, Desrochers and Le Bars, "Set-membership State Estimation by Solving Data
+//! Association" (2020), as Codac has it. Here it is exact over whole numbers, mark by mark.
 #![tactic(auto)]
 
 mod boxes;

@@ -29,20 +29,15 @@ fn fired<C: Contractor, L: Ledger>(blank: Blank, ctc: &C, store: &mut Store) -> 
 fn one_of_two(rt: HostRuntime) -> Result<(), Fail> {
     let grid = Grid::uniform(rt.alloc(), 1, 1)?;
     let mut store = Store::new(rt.alloc(), grid);
-    let zero = Interval::new(0, 0).ok_or("zero")?;
     let x = store.add_var(Interval::new(50, 130).ok_or("x")?)?;
-    let y = store.add_var(zero)?;
-    let first = [store.add_var(zero)?, store.add_var(zero)?];
-    let second = [
-        store.add_var(Interval::new(100, 100).ok_or("second")?)?,
-        store.add_var(zero)?,
-    ];
-    let marks = vec![in rt.alloc(); first, second]?;
-    let ctc = ConstellCtc::new([x, y], marks);
+    let zero = store.add_var(Interval::new(0, 0).ok_or("zero")?)?;
+    let far = store.add_var(Interval::new(100, 100).ok_or("far")?)?;
+    let marks = vec![in rt.alloc(); [zero, zero], [far, zero]]?;
+    let ctc = ConstellCtc::new([x, zero], marks);
     assert_eq!(rt; ctc.reads(&store), 6);
-    assert_eq!(rt; ctc.read(&store, 4), store.var(second[0]));
+    assert_eq!(rt; ctc.read(&store, 4), store.var(far));
     assert_eq!(rt; ctc.writes(&store), 2);
-    assert_eq!(rt; ctc.written(&store, 1), store.var(y));
+    assert_eq!(rt; ctc.written(&store, 1), store.var(zero));
     assert_eq!(rt;
         fired::<ConstellCtc<2>, Brand>(Blank::new(1), &ctc, &mut store),
         (Revised::Narrowed, false)
@@ -57,19 +52,16 @@ fn one_of_two(rt: HostRuntime) -> Result<(), Fail> {
 fn in_space(rt: HostRuntime) -> Result<(), Fail> {
     let grid = Grid::uniform(rt.alloc(), 1, 1)?;
     let mut store = Store::new(rt.alloc(), grid);
-    let wide = Interval::new(-20, 120).ok_or("wide")?;
-    let zero = Interval::new(0, 0).ok_or("zero")?;
-    let far = Interval::new(100, 105).ok_or("far")?;
-    let p = [store.add_var(wide)?, store.add_var(zero)?, store.add_var(wide)?];
-    let first = [store.add_var(zero)?, store.add_var(zero)?, store.add_var(far)?];
-    let second = [store.add_var(far)?, store.add_var(zero)?, store.add_var(zero)?];
-    let marks = vec![in rt.alloc(); first, second]?;
-    let ctc = ConstellCtc::new(p, marks);
+    let x = store.add_var(Interval::new(-20, 120).ok_or("x")?)?;
+    let zero = store.add_var(Interval::new(0, 0).ok_or("zero")?)?;
+    let far = store.add_var(Interval::new(100, 105).ok_or("far")?)?;
+    let marks = vec![in rt.alloc(); [zero, zero, zero], [far, zero, zero]]?;
+    let ctc = ConstellCtc::new([x, zero, zero], marks);
     assert_eq!(rt;
         fired::<ConstellCtc<3>, Brand>(Blank::new(1), &ctc, &mut store),
         (Revised::Narrowed, false)
     );
     assert!(rt; !store.is_empty());
-    assert_eq!(rt; Some(store.get(store.var(p[2]))), Interval::new(0, 105));
+    assert_eq!(rt; Some(store.get(store.var(x))), Interval::new(0, 105));
     Ok(())
 }

@@ -24,7 +24,7 @@ span_sum_below f (suc n) = add_of (span_sum_below f n) (f n)
 abbrev pub squares_from : ℤ → ℤ → Span
 squares_from near far = record { lo = near *ℤ near; hi = far *ℤ far }
 
--- how many coordinates two points have, each of them
+-- how many coordinates both points have
 abbrev pub dimension : List ℕ → List ℕ → ℕ
 dimension p b = min (length p) (length b)
 

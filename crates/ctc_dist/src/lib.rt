@@ -4,11 +4,13 @@
 //! the differences `P_i - B_i` lies in `near * near..far * far`. In two coordinates the points at these distances of `B` are a ring:
 //!
 //! ```text
-//!       . - - .
-//!    .  . - .  .        both sides of the inner circle are left
-//!   .  .  B  .  .       in each coordinate
-//!    .  ' - '  .
-//!       ' - - '
+//!          . - - - .
+//!       .     . .     .
+//!     .    .       .    .       in each coordinate both sides are left,
+//!     .   .    B    .   .       and with them what lies between
+//!     .    .       .    .
+//!       .     ' '     .
+//!          ' - - - '
 //! ```
 //!
 //! The contractor of a distance is that of Codac (Rohou, Jaulin and others); the idea of localising by ranges with intervals is that of

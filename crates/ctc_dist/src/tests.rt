@@ -29,31 +29,27 @@ fn fired<C: Contractor, L: Ledger>(blank: Blank, ctc: &C, store: &mut Store) -> 
 fn on_a_line(rt: HostRuntime) -> Result<(), Fail> {
     let grid = Grid::uniform(rt.alloc(), 1, 1)?;
     let mut store = Store::new(rt.alloc(), grid);
-    let zero = Interval::new(0, 0).ok_or("zero")?;
     let range = Interval::new(0, 100).ok_or("range")?;
-    let x = store.add_var(zero)?;
-    let y = store.add_var(zero)?;
-    let far_x = store.add_var(range)?;
-    let far_y = store.add_var(zero)?;
-    let third_x = store.add_var(range)?;
-    let third_y = store.add_var(zero)?;
-    let ten = DistCtc::new([x, y], [far_x, far_y], 10, 10);
+    let zero = store.add_var(Interval::new(0, 0).ok_or("zero")?)?;
+    let far = store.add_var(range)?;
+    let third = store.add_var(range)?;
+    let ten = DistCtc::new([zero, zero], [far, zero], 10, 10);
     assert_eq!(rt; ten.reads(&store), 4);
-    assert_eq!(rt; ten.read(&store, 3), store.var(far_y));
+    assert_eq!(rt; ten.read(&store, 3), store.var(zero));
     assert_eq!(rt; ten.writes(&store), 4);
-    assert_eq!(rt; ten.written(&store, 2), store.var(far_x));
+    assert_eq!(rt; ten.written(&store, 2), store.var(far));
     assert_eq!(rt;
         fired::<DistCtc<2>, Brand>(Blank::new(1), &ten, &mut store),
         (Revised::Narrowed, false)
     );
-    let five = DistCtc::new([third_x, third_y], [far_x, far_y], 5, 5);
+    let five = DistCtc::new([third, zero], [far, zero], 5, 5);
     assert_eq!(rt;
         fired::<DistCtc<2>, Brand>(Blank::new(1), &five, &mut store),
         (Revised::Narrowed, false)
     );
     assert!(rt; !store.is_empty());
-    assert_eq!(rt; Some(store.get(store.var(far_x))), Interval::new(10, 10));
-    assert_eq!(rt; Some(store.get(store.var(third_x))), Interval::new(5, 15));
+    assert_eq!(rt; Some(store.get(store.var(far))), Interval::new(10, 10));
+    assert_eq!(rt; Some(store.get(store.var(third))), Interval::new(5, 15));
     Ok(())
 }
 
@@ -62,16 +58,11 @@ fn on_a_line(rt: HostRuntime) -> Result<(), Fail> {
 fn in_space(rt: HostRuntime) -> Result<(), Fail> {
     let grid = Grid::uniform(rt.alloc(), 1, 1)?;
     let mut store = Store::new(rt.alloc(), grid);
-    let zero = Interval::new(0, 0).ok_or("zero")?;
-    let p = [
-        store.add_var(zero)?,
-        store.add_var(zero)?,
-        store.add_var(zero)?,
-    ];
+    let zero = store.add_var(Interval::new(0, 0).ok_or("zero")?)?;
     let x = store.add_var(Interval::new(0, 20).ok_or("x")?)?;
     let y = store.add_var(Interval::new(3, 3).ok_or("y")?)?;
     let z = store.add_var(Interval::new(4, 4).ok_or("z")?)?;
-    let dist = DistCtc::new(p, [x, y, z], 13, 13);
+    let dist = DistCtc::new([zero, zero, zero], [x, y, z], 13, 13);
     assert_eq!(rt;
         fired::<DistCtc<3>, Brand>(Blank::new(1), &dist, &mut store),
         (Revised::Narrowed, false)

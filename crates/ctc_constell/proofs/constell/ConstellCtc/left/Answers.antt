@@ -1,4 +1,4 @@
-use Rattle.std.proofs.Common.{◌≡◌, ◌<◌, ◌≤◌, ℕ, List, arith, rules, sym, ap, ap₂, subst, ◌∙◌, length, map, All, slice_index_or}
+use Rattle.std.proofs.Common.{◌≡◌, ◌<◌, ◌≤◌, List, arith, rules, sym, ap, ap₂, subst, ◌∙◌, length, map, All, slice_index_or}
 use Rattle.tube_spec.specs.Span.{Span}
 use Rattle.tube_spec.specs.Hull.{join_option}
 use Rattle.tube_store.specs.declared.VarId.{VarId}

@@ -1,4 +1,4 @@
-use Rattle.std.proofs.Common.{◌≡◌, ◌+◌, ◌*◌, ◌<◌, ◌≤◌, ℕ, arith, rules, sym, ap, subst, ◌∙◌, length, map, slice_index}
+use Rattle.std.proofs.Common.{◌+◌, ◌*◌, ◌<◌, ◌≤◌, arith, rules, ap, ◌∙◌, length, map, slice_index}
 use Rattle.ctc_constell.specs.Points.{numbers}
 use Rattle.ctc_constell.proofs.Reading.{numbers-length, both-length, scope-length, scope-at, alike-at, all-named}
 use Rattle.ctc_constell.proofs.constell.ConstellCtcContractor.read.Goals as goal

@@ -1,4 +1,4 @@
-use Rattle.std.proofs.Common.{◌<◌, arith, sym, ap, ◌∙◌, length, map}
+use Rattle.std.proofs.Common.{arith, sym, ap, ◌∙◌, length, map}
 use Rattle.std.proofs.lemmas.List.FromFn.{length-map-range_with_len}
 use Rattle.tube_spec.specs.Projection.{Projection}
 use Rattle.ctc_constell.specs.Points.{numbers, cells_of}
