@@ -1,23 +1,20 @@
 -- What a run over an accepted log leaves, from what settling and writing say.
-use Rattle.std.proofs.Common.{◌≡◌, ℕ, ◌+◌, ◌≤◌, ◌⊎◌, inl, inr, List, Option, Some, None, IsSomeAnd, IsFalse, All, arith, refl, sym, ap, subst, ◌∙◌}
-use Rattle.tube_spec.specs.Span.{Span}
+use Rattle.std.proofs.Common.{◌≡◌, ℕ, ◌⊎◌, inl, inr, List, Option, Some, IsSomeAnd, IsFalse, All, refl, sym, ap, subst, ◌∙◌}
 use Rattle.tube_spec.specs.Box.{measure_of}
 use Rattle.ctc_network.specs.Nets.{NetState}
 use Rattle.ctc_network.specs.declared.answers.Settled.{Settled}
 use Rattle.ctc_network.specs.declared.answers.Settled.TheVariants as answer
 use Rattle.mission_log.specs.declared.item.Mission.{Mission}
 use Rattle.cli_words.specs.declared.answer.Asked.{Asked}
-use Rattle.mission_net.specs.Records.{shape_by, start, Encloses}
+use Rattle.mission_net.specs.Records.{start, Encloses}
 use Rattle.mission_net.specs.Building.{IsNetOf, IsSectionAs, IsSpentAs}
 use Rattle.mission_net.specs.declared.AnyCtc.{AnyCtc}
 use Rattle.tube_report.specs.Sections.{section_text}
-use Rattle.tube_report.specs.declared.section.Verdict.{Verdict}
-use Rattle.tube_report.specs.declared.section.Verdict.TheVariants as verdict
 use Rattle.codac_run.specs.declared.ended.Status.{Status}
 use Rattle.codac_run.specs.declared.ended.Status.TheVariants as status
 use Rattle.codac_run.specs.declared.ended.SpentAt.{SpentAt}
 use Rattle.codac_run.specs.declared.ended.Ended.{Ended}
-use Rattle.codac_run.specs.Reports.{IsReport, IsSpent, HandsSpent, IsSettledNet, HandsNet, HandsWhere, HandsNetWhere, IsSettledOnly, verdict_of, status_of, Writes, Reports}
+use Rattle.codac_run.specs.Reports.{IsSpent, HandsSpent, IsSettledNet, HandsNet, HandsWhere, HandsNetWhere, IsSettledOnly, verdict_of, status_of, Writes, Reports}
 
 hands-spent : (m : Mission) (budget began : ℕ) (net : NetState AnyCtc) (a : Settled) (spent : Option SpentAt) → began ≡ measure_of (Some (start m.cuts m.items))
     → IsSpentAs m.cuts m.items net.store.box began budget a → HandsWhere a began net spent → HandsSpent m budget a net.store.box spent

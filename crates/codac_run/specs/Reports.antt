@@ -1,5 +1,5 @@
 -- What a run writes and hands out, and what its report says.
-use Rattle.std.specs.Prelude.{◌≡◌, ℕ, ◌+◌, ◌≤◌, ◌⊎◌, Bool, List, Option, Some, None, IsSome, IsNone, IsSomeAnd, IsFalse, Result, Ok, Err, All}
+use Rattle.std.specs.Prelude.{◌≡◌, ℕ, ◌⊎◌, Bool, List, Option, Some, None, IsSomeAnd, IsFalse, Result, Ok, Err, All}
 use Rattle.tube_spec.specs.Span.{Span}
 use Rattle.tube_spec.specs.Box.{measure_of}
 use Rattle.tube_io.specs.Moves.{AllFlushed}
@@ -9,7 +9,6 @@ use Rattle.ctc_network.specs.Nets.{NetState}
 use Rattle.ctc_network.specs.declared.answers.Settled.{Settled}
 use Rattle.ctc_network.specs.declared.answers.Settled.TheVariants as answer
 use Rattle.mission_log.specs.declared.fault.Cause.{Cause}
-use Rattle.mission_log.specs.declared.item.Item.{Item}
 use Rattle.mission_log.specs.declared.item.Mission.{Mission}
 use Rattle.cli_words.specs.declared.answer.Asked.{Asked}
 use Rattle.cli_words.specs.declared.answer.Mode.{Mode}

@@ -1,4 +1,4 @@
-use Rattle.std.proofs.Common.{◌≡◌, ℕ, List, Some, sym, ap, ◌∙◌}
+use Rattle.std.proofs.Common.{Some, sym, ap, ◌∙◌}
 use Rattle.mission_log.specs.Log.{log_of}
 use Rattle.codac_run.proofs.hearing.hear.Goals as goal
 

@@ -1,4 +1,4 @@
-use Rattle.std.proofs.Common.{◌≡◌, ℕ, List, [], ◌++◌, Option, Some, inl, inr, sym, ap, subst, ◌∙◌, length, take, drop, ap₂, ◌⊎◌}
+use Rattle.std.proofs.Common.{◌≡◌, List, [], Option, Some, inr, ap, subst, ◌∙◌, length, take, ap₂, ◌⊎◌}
 use Rattle.std.proofs.Math.Seq.{take-length}
 use Rattle.tube_spec.specs.Span.{Span}
 use Rattle.tube_spec.specs.Shape.{Shape}
@@ -7,7 +7,6 @@ use Rattle.tube_spec.specs.Owner.{start_of}
 use Rattle.tube_store.specs.State.{State}
 use Rattle.ctc_network.specs.Nets.{NetState}
 use Rattle.mission_log.specs.declared.item.Item.{Item}
-use Rattle.mission_log.specs.Names.{signals_in, variables_in}
 use Rattle.mission_net.specs.Records.{owners, start, Encloses}
 use Rattle.mission_net.specs.Building.{IsNetOf, IsSectionAs, IsSpentAs}
 use Rattle.mission_net.specs.declared.AnyCtc.{AnyCtc}
