@@ -3,8 +3,8 @@
 #![tactic(auto)]
 
 #[cfg(test)]
+mod net_dead_reckoning;
+#[cfg(test)]
 mod net_localising;
 #[cfg(test)]
-mod net_rows;
-#[cfg(test)]
-mod run_rows;
+mod run_missions;

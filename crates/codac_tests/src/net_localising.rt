@@ -149,7 +149,10 @@ fn add_apart(net: &mut Net<AnyCtc>, near: i64, far: i64) -> Result<(), Fail> {
     if near < 0 || near > far || far > 2_000_000_000 {
         return Err(Fail::from("no such distance"));
     }
-    let (p, b) = ([VarId(0), VarId(1), VarId(2)], [VarId(3), VarId(4), VarId(5)]);
+    let (p, b) = (
+        [VarId(0), VarId(1), VarId(2)],
+        [VarId(3), VarId(4), VarId(5)],
+    );
     net.add(AnyCtc::Dist3(DistCtc::new(p, b, near, far)))?;
     Ok(())
 }
@@ -169,7 +172,10 @@ fn add_one_of_two(
     if other.0 >= vars || other.1 >= vars || net.len() >= MANY {
         return Err(Fail::from("no such mark"));
     }
-    let marks = vec![in alloc; [VarId(one.0), VarId(one.1)], [VarId(other.0), VarId(other.1)]]?;
+    let marks = vec![in alloc;
+        [VarId(one.0), VarId(one.1)],
+        [VarId(other.0), VarId(other.1)],
+    ]?;
     net.add(AnyCtc::Constell(ConstellCtc::new([VarId(p.0), VarId(p.1)], marks)))?;
     Ok(())
 }
@@ -190,7 +196,12 @@ fn add_place(
 }
 
 // Adds what one part of a mission asks.
-fn add_part(alloc: Global, net: &mut Net<AnyCtc>, mission: &Mission, part: Part) -> Result<(), Fail> {
+fn add_part(
+    alloc: Global,
+    net: &mut Net<AnyCtc>,
+    mission: &Mission,
+    part: Part,
+) -> Result<(), Fail> {
     match part {
         Part::Rate(x, rate) => add_rates(net, x, rate),
         Part::Value(x, rate, t, declared, z) => {
@@ -296,21 +307,44 @@ fn values_and_fixes(rt: HostRuntime) -> Result<(), Fail> {
             signals: [hundred].as_slice(),
             variables: [(5, 6), (20, 30)].as_slice(),
             parts: [Part::Value(0, None, 0, (5, 6), 1)].as_slice(),
-            bounds: [hundred, hundred, hundred, hundred, hundred, (5, 6), (20, 30)].as_slice(),
+            bounds: [
+                hundred,
+                hundred,
+                hundred,
+                hundred,
+                hundred,
+                (5, 6),
+                (20, 30),
+            ]
+            .as_slice(),
         },
         Mission {
             cuts: [0, 5, 10].as_slice(),
             signals: [hundred].as_slice(),
             variables: [(5, 5), (20, 30)].as_slice(),
             parts: [Part::Value(0, None, 0, (5, 5), 1)].as_slice(),
-            bounds: [hundred, hundred, (20, 30), hundred, hundred, (5, 5), (20, 30)].as_slice(),
+            bounds: [
+                hundred,
+                hundred,
+                (20, 30),
+                hundred,
+                hundred,
+                (5, 5),
+                (20, 30),
+            ]
+            .as_slice(),
         },
         // a known rate leaves one time for the value; the value keeps what the envelope allows
         Mission {
             cuts: [0, 5, 10].as_slice(),
             signals: [hundred, ten].as_slice(),
             variables: [(3, 6), (52, 60)].as_slice(),
-            parts: [Part::Rate(0, 1), Part::Fix(0, Some(1), 0, (0, 0)), Part::Value(0, Some(1), 0, (3, 6), 1)].as_slice(),
+            parts: [
+                Part::Rate(0, 1),
+                Part::Fix(0, Some(1), 0, (0, 0)),
+                Part::Value(0, Some(1), 0, (3, 6), 1),
+            ]
+            .as_slice(),
             bounds: [
                 (0, 0),
                 (0, 50),
@@ -381,7 +415,9 @@ fn delays(rt: HostRuntime) -> Result<(), Fail> {
         Part::Fix(0, None, 4, (40, 40)),
         Part::Later(0, 1, 0),
     ];
-    let (a, b, c, d, e, f) = (rising[0], rising[1], rising[2], rising[3], rising[4], rising[5]);
+    let (a, b, c, d, e, f) = (
+        rising[0], rising[1], rising[2], rising[3], rising[4], rising[5],
+    );
     for (parts, bounds) in [
         (
             rising.as_slice(),
@@ -452,23 +488,25 @@ fn delays(rt: HostRuntime) -> Result<(), Fail> {
     Ok(())
 }
 
-// The declared ranges of the plane and of the variables, what is asked, and the bounds of the cells of the plane.
-type Seen<'a> = ([(i64, i64); 2], &'a [(i64, i64)], &'a [Part], &'a [(i64, i64)]);
-
 // Beacons seen from a vehicle over a slice of five ticks.
 #[test]
 fn pings(rt: HostRuntime) -> Result<(), Fail> {
     let hundred = (0, 100);
     let zero = (0, 0);
-    let beacon = [hundred, zero].as_slice();
-    let two = [zero, zero, (100, 100), zero].as_slice();
-    let unknown = [Part::PingOfTwo(5, (0, 1), (2, 3), 0, 10)].as_slice();
-    let seen: [Seen; 6] = [
+    let beacon = [hundred, zero];
+    let two = [zero, zero, (100, 100), zero];
+    let unknown = [Part::PingOfTwo(5, (0, 1), (2, 3), 0, 10)];
+    for (signals, variables, parts, bounds) in [
         // the vehicle places the beacon, and the beacon the vehicle
         (
             [hundred, zero],
-            beacon,
-            [Part::Fix(0, None, 0, zero), Part::Ping(0, (0, 1), 10, 10), Part::Ping(5, (0, 1), 5, 5)].as_slice(),
+            beacon.as_slice(),
+            [
+                Part::Fix(0, None, 0, zero),
+                Part::Ping(0, (0, 1), 10, 10),
+                Part::Ping(5, (0, 1), 5, 5),
+            ]
+            .as_slice(),
             [zero, hundred, (5, 15), zero, zero, zero, (10, 10), zero].as_slice(),
         ),
         // at no distance it is where the beacon is
@@ -476,31 +514,55 @@ fn pings(rt: HostRuntime) -> Result<(), Fail> {
             [hundred, hundred],
             [(10, 10), (20, 20)].as_slice(),
             [Part::Ping(5, (0, 1), 0, 0)].as_slice(),
-            [hundred, hundred, (10, 10), hundred, hundred, (20, 20), (10, 10), (20, 20)].as_slice(),
+            [
+                hundred,
+                hundred,
+                (10, 10),
+                hundred,
+                hundred,
+                (20, 20),
+                (10, 10),
+                (20, 20),
+            ]
+            .as_slice(),
         ),
         // a ring lies on both sides
         (
             [(-100, 100), zero],
             [zero, zero].as_slice(),
             [Part::Ping(5, (0, 1), 50, 60)].as_slice(),
-            [(-100, 100), (-100, 100), (-60, 60), zero, zero, zero, zero, zero].as_slice(),
+            [
+                (-100, 100),
+                (-100, 100),
+                (-60, 60),
+                zero,
+                zero,
+                zero,
+                zero,
+                zero,
+            ]
+            .as_slice(),
         ),
         // one of two beacons: near either, near the one that can be, near none
         (
             [(-20, 120), zero],
-            two,
-            unknown,
+            two.as_slice(),
+            unknown.as_slice(),
             [(-20, 120), (-20, 120), (-10, 110), zero, zero, zero].as_slice(),
         ),
         (
             [(60, 120), zero],
-            two,
-            unknown,
+            two.as_slice(),
+            unknown.as_slice(),
             [(60, 120), (60, 120), (90, 110), zero, zero, zero].as_slice(),
         ),
-        ([(20, 80), zero], two, unknown, [].as_slice()),
-    ];
-    for (signals, variables, parts, bounds) in seen {
+        (
+            [(20, 80), zero],
+            two.as_slice(),
+            unknown.as_slice(),
+            [].as_slice(),
+        ),
+    ] {
         in_each_order(
             rt.alloc(),
             &Mission {

@@ -18,7 +18,7 @@ type Measured = (u32, u32, u32, i64, i64);
 /// The cuts of the clock, the declared ranges of the signals, and what is measured. Where there are two signals, the second is the
 /// rate of the first.
 #[derive(Clone, Copy)]
-struct Row<'a> {
+struct Mission<'a> {
     cuts: &'a [u32],
     declared: &'a [(i64, i64)],
     measured: &'a [Measured],
@@ -67,11 +67,11 @@ fn add_signal(net: &mut Net<AnyCtc>, lo: i64, hi: i64) -> Result<(), Fail> {
     Ok(())
 }
 
-// The net of a row: its signals, their slices, the rate, and what is measured.
-fn net_of(alloc: Global, row: Row) -> Result<Net<AnyCtc>, Fail> {
-    let mut net: Net<AnyCtc> = Net::new(alloc, Grid::from_cuts(alloc, row.cuts)?);
+// The net of a mission: its signals, their slices, the rate, and what is measured.
+fn net_of(alloc: Global, mission: Mission) -> Result<Net<AnyCtc>, Fail> {
+    let mut net: Net<AnyCtc> = Net::new(alloc, Grid::from_cuts(alloc, mission.cuts)?);
     let slices = net.store().slices();
-    for (lo, hi) in row.declared {
+    for (lo, hi) in mission.declared {
         add_signal(&mut net, *lo, *hi)?;
     }
     let signals = net.store().signals();
@@ -85,24 +85,24 @@ fn net_of(alloc: Global, row: Row) -> Result<Net<AnyCtc>, Fail> {
             add_rate(&mut net, 0, 1, slice)?;
         }
     }
-    for measured in row.measured {
+    for measured in mission.measured {
         add_measured(&mut net, measured)?;
     }
     Ok(net)
 }
 
-// What settling a row in an order answers, and the bounds of all cells then; none where the box is empty.
+// What settling a mission in an order answers, and the bounds of all cells then; none where the box is empty.
 fn settled<L: Ledger>(
     blank: Blank,
     alloc: Global,
-    row: Row,
+    mission: Mission,
     order: Order,
 ) -> Result<(Settled, Vec<(i64, i64)>), Fail>
     requires name { blank.name ≡ L.name }
     requires parts { blank.parts ≡ L.parts }
     requires some { 0 < L.parts }
 {
-    let mut net = net_of(alloc, row)?;
+    let mut net = net_of(alloc, mission)?;
     let mut steps = Steps::<L>::new(blank);
     let answer = net.settle(order, 1_000_000_000, &mut steps);
     let mut bounds = Vec::new(alloc);
@@ -117,16 +117,16 @@ fn settled<L: Ledger>(
 }
 
 #[test]
-fn rows_in_each_order(rt: HostRuntime) -> Result<(), Fail> {
+fn missions_in_each_order(rt: HostRuntime) -> Result<(), Fail> {
     let clock = [0, 5, 10].as_slice();
     let signals = [(-1000, 1000), (-20, 20)].as_slice();
     let start = (0, 0, 0, 0, 0);
     let any = (-20, 20);
     // from a known start; with a fix at the end; with one that no trajectory reaches, and one that full speed reaches;
     // a slice of one tick; slices of two widths and a rate that is never 0
-    for (row, bounds) in [
+    for (mission, bounds) in [
         (
-            Row {
+            Mission {
                 cuts: clock,
                 declared: signals,
                 measured: [start].as_slice(),
@@ -146,7 +146,7 @@ fn rows_in_each_order(rt: HostRuntime) -> Result<(), Fail> {
             .as_slice(),
         ),
         (
-            Row {
+            Mission {
                 cuts: clock,
                 declared: signals,
                 measured: [start, (0, 10, 10, 150, 150)].as_slice(),
@@ -166,7 +166,7 @@ fn rows_in_each_order(rt: HostRuntime) -> Result<(), Fail> {
             .as_slice(),
         ),
         (
-            Row {
+            Mission {
                 cuts: clock,
                 declared: signals,
                 measured: [start, (0, 10, 10, 201, 201)].as_slice(),
@@ -174,7 +174,7 @@ fn rows_in_each_order(rt: HostRuntime) -> Result<(), Fail> {
             [].as_slice(),
         ),
         (
-            Row {
+            Mission {
                 cuts: clock,
                 declared: signals,
                 measured: [start, (0, 10, 10, 200, 200)].as_slice(),
@@ -194,7 +194,7 @@ fn rows_in_each_order(rt: HostRuntime) -> Result<(), Fail> {
             .as_slice(),
         ),
         (
-            Row {
+            Mission {
                 cuts: [0, 1].as_slice(),
                 declared: [(0, 10)].as_slice(),
                 measured: [(0, 0, 0, 3, 3), (0, 1, 1, 7, 7)].as_slice(),
@@ -202,7 +202,7 @@ fn rows_in_each_order(rt: HostRuntime) -> Result<(), Fail> {
             [(3, 3), (3, 7), (7, 7)].as_slice(),
         ),
         (
-            Row {
+            Mission {
                 cuts: [0, 5, 8].as_slice(),
                 declared: [(-1000, 1000), (1, 2)].as_slice(),
                 measured: [start].as_slice(),
@@ -223,7 +223,7 @@ fn rows_in_each_order(rt: HostRuntime) -> Result<(), Fail> {
         ),
     ] {
         for order in [Order::Fifo, Order::Lifo, Order::Rank] {
-            let (answer, held) = settled::<Brand>(Blank::new(1), rt.alloc(), row, order)?;
+            let (answer, held) = settled::<Brand>(Blank::new(1), rt.alloc(), mission, order)?;
             let want = if bounds.is_empty() {
                 Settled::Empty
             } else {

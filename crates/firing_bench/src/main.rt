@@ -1,0 +1,102 @@
+//! Fires one contractor again and again, so that `bench/firings` can time a firing. The words are the contractor (`value`, `later` or
+//! `shift`), its size in ticks and how often it is fired. The program prints how many firings narrowed something.
+#![tactic(auto)]
+
+ghost use Rattle.std.specs.Prelude.{◌≡◌, ◌<◌, IfSome};
+ghost use Rattle.tube_spec.specs.Span.{IsBounded};
+
+use ctc_core::Revised;
+use ctc_delay::{DelayShift, DelayTo};
+use ctc_eval::EvalCtc;
+use ctc_network::{CtcId, Net};
+use int_interval::Interval;
+use mission_net::AnyCtc;
+use slice_gates::Grid;
+use std::alloc::Global;
+use std::env;
+use std::marker::Brand;
+use std::process::ExitCode;
+use std::rt::Env;
+use std::sync::ledger::{Blank, Ledger};
+use step_count::Steps;
+use tube_store::{SignalId, VarId};
+
+// The bounds of a declared range.
+fn declared(lo: i64, hi: i64) -> Option<Interval>
+    ensures { IfSome result (IsBounded 500000000) }
+{
+    if lo < -500_000_000 || hi > 500_000_000 {
+        return None;
+    }
+    Interval::new(lo, hi)
+}
+
+// A position and a rate, a time or delay of `size` possible ticks, and a value, over 2,000 ticks in slices of ten.
+fn net_of(alloc: Global, size: u32) -> Option<Net<AnyCtc>> {
+    let mut net: Net<AnyCtc> = Net::new(alloc, Grid::uniform(alloc, 2000, 10).ok()?);
+    net.add_signal(declared(-1_000_000, 1_000_000)?).ok()?;
+    net.add_signal(declared(-20, 20)?).ok()?;
+    net.add_var(declared(0, i64::from(size) - 1)?).ok()?;
+    net.add_var(declared(-1000, 1000)?).ok()?;
+    Some(net)
+}
+
+// Adds the contractor that a word names.
+fn add(net: &mut Net<AnyCtc>, word: &str, size: u32) -> Option<()> {
+    if net.store().signals() < 2 || net.store().vars() < 2 || net.len() > 0 {
+        return None;
+    }
+    let (x, y, t, z) = (SignalId(0), SignalId(1), VarId(0), VarId(1));
+    let time = declared(0, i64::from(size) - 1)?;
+    net.store().known();
+    let added = match word {
+        "value" => net.add(AnyCtc::Eval(EvalCtc::new(x, Some(y), t, z, time))),
+        "later" => net.add(AnyCtc::DelayTo(DelayTo::new(x, y, t))),
+        "shift" => net.add(AnyCtc::DelayShift(DelayShift::new(x, y, t))),
+        _ => return None,
+    };
+    added.ok()?;
+    Some(())
+}
+
+// Fires the net's contractor so many times, and counts the firings that narrowed something.
+fn fire_often<L: Ledger>(net: &mut Net<AnyCtc>, turns: u32, blank: Blank) -> u32
+    requires name { blank.name ≡ L.name }
+    requires parts { blank.parts ≡ L.parts }
+    requires some { 0 < L.parts }
+{
+    let mut steps = Steps::<L>::new(blank);
+    let mut narrowed: u32 = 0;
+    for _ in 0..turns {
+        if net.len() > 0 && net.fire(CtcId(0), &mut steps) == Revised::Narrowed {
+            narrowed = narrowed.saturating_add(1);
+        }
+    }
+    narrowed
+}
+
+// What the words ask for: the contractor, its size and how often it is fired.
+fn asked(rt: &(impl Env + AllocGlobal)) -> Option<(String, u32, u32)> {
+    let mut words = env::args(rt).ok()?.skip(1);
+    let word = words.next()?;
+    let size = words.next()?.as_str().parse().ok()?;
+    let turns = words.next()?.as_str().parse().ok()?;
+    Some((word, size, turns))
+}
+
+fn counted(rt: &(impl Env + AllocGlobal)) -> Option<u32> {
+    let (word, size, turns) = asked(rt)?;
+    let mut net = net_of(rt.alloc(), size)?;
+    add(&mut net, word.as_str(), size)?;
+    Some(fire_often::<Brand>(&mut net, turns, Blank::new(1)))
+}
+
+fn main(rt: HostRuntime) -> ExitCode {
+    match counted(&rt) {
+        Some(narrowed) => match println!(rt; "{narrowed}") {
+            Ok(()) => ExitCode::SUCCESS,
+            Err(_) => ExitCode::FAILURE,
+        },
+        None => ExitCode::FAILURE,
+    }
+}
