@@ -1,0 +1,6 @@
+pub mod Spelling
+pub mod Grammar
+pub mod Reading
+pub mod Acceptor
+pub mod Accepts
+pub mod Canonical

@@ -1,0 +1,5 @@
+//! The text of expressions.
+#![tactic(auto)]
+
+mod acceptor;
+pub mod token;
