@@ -2,3 +2,8 @@ pub mod Stack
 pub mod Grown
 pub mod Sound
 pub mod Complete
+pub mod Counts
+pub mod Sizes
+pub mod Texts
+pub mod Verdicts
+pub mod Faults

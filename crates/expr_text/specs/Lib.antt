@@ -3,4 +3,5 @@ pub mod Grammar
 pub mod Reading
 pub mod Acceptor
 pub mod Accepts
+pub mod Scans
 pub mod Canonical

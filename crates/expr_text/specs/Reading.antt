@@ -48,6 +48,13 @@ abbrev pub most_open : ℕ → List Token → ℕ
 most_open n [] = n
 most_open n (t ∷ ts) = max n (most_open (open_behind n t) ts)
 
+-- how many nodes of the tree a token makes: one, but for brackets and commas
+abbrev pub token_nodes : Token → ℕ
+token_nodes token.Open = 0
+token_nodes token.Close = 0
+token_nodes token.Comma = 0
+token_nodes _ = 1
+
 -- at most 256 nodes, depth 32, and 32 brackets open at one time
 pub record IsWithinLimits (phrase : RelationPhrase) : Type 0 where
   pub nodes : relation_nodes (phrase_relation phrase) ≤ 256

@@ -2,4 +2,8 @@
 #![tactic(auto)]
 
 mod acceptor;
-pub mod token;
+pub mod fault;
+mod scan;
+mod token;
+
+pub use fault::ExprFault;
