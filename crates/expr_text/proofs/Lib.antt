@@ -7,3 +7,4 @@ pub mod Sizes
 pub mod Texts
 pub mod Verdicts
 pub mod Faults
+pub mod Built

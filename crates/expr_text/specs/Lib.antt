@@ -4,4 +4,5 @@ pub mod Reading
 pub mod Acceptor
 pub mod Accepts
 pub mod Scans
+pub mod Descent
 pub mod Canonical
