@@ -4,8 +4,8 @@ use Rattle.std.specs.Prelude.{option_and_then, option_map}
 use Rattle.expr_tree.specs.Trees.{Tree, Number, Named, Apply, Join, Unary, Binary, Minus, Square, Absolute, Sum, Difference, Product, Least, Greatest}
 use Rattle.expr_text.specs.declared.token.Token.{Token}
 use Rattle.expr_text.specs.declared.token.Token.TheVariants as token
-use Rattle.expr_text.specs.Grammar.{SumPhrase, SumOf, Addends, NoAddend, Added, Subtracted, ProductPhrase, ProductOf, Factors, NoFactor, Multiplied, UnaryPhrase, Negated, Plain, PrimaryPhrase, Literal, Symbol, Bracketed, SquareOf, AbsoluteOf, LeastOf, GreatestOf, RelationPhrase, sum_tokens, addend_tokens, product_tokens, factor_tokens, unary_tokens, primary_tokens, relation_tokens, sum_tree, with_addends, product_tree, with_factors, unary_tree, primary_tree}
-use Rattle.expr_text.specs.Descent.{Read, ReadTwo, closes, closes_two, with_unary, with_binary, sum_at, addends_at, product_at, factors_at, unary_at, bracket_at, pair_at, second_at}
+use Rattle.expr_text.specs.Grammar.{SumPhrase, SumOf, Addends, NoAddend, Added, Subtracted, ProductPhrase, ProductOf, Factors, NoFactor, Multiplied, UnaryPhrase, Negated, Plain, PrimaryPhrase, Literal, Symbol, Bracketed, SquareOf, AbsoluteOf, LeastOf, GreatestOf, RelationPhrase, sum_tokens, addend_tokens, product_tokens, factor_tokens, unary_tokens, primary_tokens, relation_tokens, phrase_relation, sum_tree, with_addends, product_tree, with_factors, unary_tree, primary_tree}
+use Rattle.expr_text.specs.Descent.{Read, ReadTwo, closes, closes_two, with_unary, with_binary, sum_at, addends_at, product_at, factors_at, unary_at, bracket_at, pair_at, second_at, ends, right_at, relation_at}
 
 -- how many calls a phrase takes
 abbrev mutual
@@ -224,3 +224,16 @@ mutual
       ap (λ (ts : List Token). unary_at (suc (suc (suc n))) (token.Max ∷ token.Open ∷ ts)) (append_assoc (sum_tokens a) tail rest ∙ ap (λ (ts : List Token). sum_tokens a ++ token.Comma ∷ ts) (append_assoc (sum_tokens b) (token.Close ∷ []) rest))
       ∙ ap (λ r. with_binary Greatest (option_and_then (λ p. second_at (suc n) p.0 p.1) r)) (sum_built a (suc n) (token.Comma ∷ (sum_tokens b ++ token.Close ∷ rest)) (omega arith) tt)
       ∙ ap (λ r. with_binary Greatest (option_and_then (λ p. closes_two (sum_tree a) p.0 p.1) r)) (sum_built b n (token.Close ∷ rest) (omega arith) tt)
+
+pub relation_built : (r : RelationPhrase) → relation_at (6 * length (relation_tokens r)) (relation_tokens r) ≡ Some (phrase_relation r)
+unfolding relation_at
+relation_built r =
+    let n = 6 * length (relation_tokens r) in
+    let x = sum_calls-le r.left in
+    let y = sum_calls-le r.right in
+    let z = length-append (sum_tokens r.left) (token.Compare r.op ∷ sum_tokens r.right) in
+    let left : sum_calls r.left ≤ n = omega (arith, x, z) in
+    let right : sum_calls r.right ≤ n = omega (arith, y, z) in
+    ap (option_and_then (λ p. right_at (sum_at n) p.0 p.1)) (sum_built r.left n (token.Compare r.op ∷ sum_tokens r.right) left tt)
+    ∙ ap (λ (ts : List Token). option_and_then (λ p. ends r.op (sum_tree r.left) p.0 p.1) (sum_at n ts)) (sym (append-nil (sum_tokens r.right)))
+    ∙ ap (option_and_then (λ p. ends r.op (sum_tree r.left) p.0 p.1)) (sum_built r.right n [] right tt)

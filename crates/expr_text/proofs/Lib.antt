@@ -8,3 +8,10 @@ pub mod Texts
 pub mod Verdicts
 pub mod Faults
 pub mod Built
+pub mod Calls
+pub mod Depths
+pub mod Limits
+pub mod Unique
+pub mod Answering
+pub mod Words
+pub mod Printed

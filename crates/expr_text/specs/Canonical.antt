@@ -1,5 +1,5 @@
 -- The canonical text.
-use Rattle.std.specs.Prelude.{ℕ, List, ◌∷◌, ◌++◌, codes}
+use Rattle.std.specs.Prelude.{ℕ, List, [], ◌++◌, codes}
 use Rattle.std.specs.Fmt.{signed_decimal}
 use Rattle.expr_tree.specs.declared.RelOp.{RelOp}
 use Rattle.expr_tree.specs.declared.RelOp.TheVariants as relop
@@ -41,3 +41,16 @@ tree_text (Join op a b) = binary_front op ++ (tree_text a ++ (binary_between op 
 
 abbrev pub relation_text : Relation → List ℕ
 relation_text r = tree_text r.left ++ (comparison_text r.op ++ tree_text r.right)
+
+-- what stands before the first term of a tree, and between its terms
+abbrev pub tree_front : Tree → List ℕ
+tree_front (Number n) = []
+tree_front (Named name) = []
+tree_front (Apply op a) = unary_front op
+tree_front (Join op a b) = binary_front op
+
+abbrev pub tree_between : Tree → List ℕ
+tree_between (Number n) = []
+tree_between (Named name) = []
+tree_between (Apply op a) = []
+tree_between (Join op a b) = binary_between op

@@ -1,7 +1,8 @@
 -- Building a tree from the left, one function for each phrase. The number bounds how deep the calls go; it
 -- runs out for no phrase that is within the limits.
 use Rattle.std.specs.Prelude.{ℕ, zero, suc, List, [], ◌∷◌, Option, Some, None, option_and_then, option_map}
-use Rattle.expr_tree.specs.Trees.{Tree, Number, Named, Apply, Join, Unary, Binary, Minus, Square, Absolute, Sum, Difference, Product, Least, Greatest}
+use Rattle.expr_tree.specs.Trees.{Tree, Number, Named, Apply, Join, Unary, Binary, Minus, Square, Absolute, Sum, Difference, Product, Least, Greatest, Relation}
+use Rattle.expr_tree.specs.declared.RelOp.{RelOp}
 use Rattle.expr_text.specs.declared.token.Token.{Token}
 use Rattle.expr_text.specs.declared.token.Token.TheVariants as token
 
@@ -81,3 +82,16 @@ unfoldable mutual
   second_at (suc n) a [] = None
   second_at (suc n) a (token.Comma ∷ ts) = option_and_then (λ p. closes_two a p.0 p.1) (sum_at n ts)
   second_at (suc n) a (_ ∷ ts) = None
+
+-- the relation that all the tokens are
+abbrev pub ends : RelOp → Tree → Tree → List Token → Option Relation
+ends op left right [] = Some (record { op = op; left = left; right = right })
+ends op left right (t ∷ ts) = None
+
+abbrev pub right_at : (List Token → Read) → Tree → List Token → Option Relation
+right_at sum left [] = None
+right_at sum left (token.Compare op ∷ ts) = option_and_then (λ p. ends op left p.0 p.1) (sum ts)
+right_at sum left (_ ∷ ts) = None
+
+unfoldable pub relation_at : ℕ → List Token → Option Relation
+relation_at n ts = option_and_then (λ p. right_at (sum_at n) p.0 p.1) (sum_at n ts)

@@ -5,4 +5,7 @@ pub mod Acceptor
 pub mod Accepts
 pub mod Scans
 pub mod Descent
+pub mod Builds
 pub mod Canonical
+pub mod Answers
+pub mod Spellable
