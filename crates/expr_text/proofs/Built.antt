@@ -153,8 +153,8 @@ mutual
   sum_built (SumOf p more) (suc n) rest h e =
       ap (sum_at (suc n)) (append_assoc (product_tokens p) (addend_tokens more) rest)
       ∙ chain (product_at n (product_tokens p ++ (addend_tokens more ++ rest))) (λ q. addends_at n q.0 q.1) (product_tree p, addend_tokens more ++ rest) (with_addends more (product_tree p), rest)
-        (product_built p n (addend_tokens more ++ rest) (omega arith) (addends_end_product more rest e))
-        (addends_built more n (product_tree p) rest (omega arith) e)
+      (product_built p n (addend_tokens more ++ rest) (omega arith) (addends_end_product more rest e))
+      (addends_built more n (product_tree p) rest (omega arith) e)
 
   addends_built : (more : Addends) (n : ℕ) (left : Tree) (rest : List Token) → addend_calls more ≤ n → EndsSum rest → addends_at n left (addend_tokens more ++ rest) ≡ Some (with_addends more left, rest)
   addends_built NoAddend zero left rest h e = absurd (omega arith)
@@ -163,22 +163,22 @@ mutual
   addends_built (Added p more) (suc n) left rest h e =
       ap (λ (ts : List Token). addends_at (suc n) left (token.Plus ∷ ts)) (append_assoc (product_tokens p) (addend_tokens more) rest)
       ∙ chain (product_at n (product_tokens p ++ (addend_tokens more ++ rest))) (λ q. addends_at n (Join Sum left q.0) q.1) (product_tree p, addend_tokens more ++ rest) (with_addends more (Join Sum left (product_tree p)), rest)
-        (product_built p n (addend_tokens more ++ rest) (omega arith) (addends_end_product more rest e))
-        (addends_built more n (Join Sum left (product_tree p)) rest (omega arith) e)
+      (product_built p n (addend_tokens more ++ rest) (omega arith) (addends_end_product more rest e))
+      (addends_built more n (Join Sum left (product_tree p)) rest (omega arith) e)
   addends_built (Subtracted p more) zero left rest h e = absurd (omega arith)
   addends_built (Subtracted p more) (suc n) left rest h e =
       ap (λ (ts : List Token). addends_at (suc n) left (token.Minus ∷ ts)) (append_assoc (product_tokens p) (addend_tokens more) rest)
       ∙ chain (product_at n (product_tokens p ++ (addend_tokens more ++ rest))) (λ q. addends_at n (Join Difference left q.0) q.1) (product_tree p, addend_tokens more ++ rest) (with_addends more (Join Difference left (product_tree p)), rest)
-        (product_built p n (addend_tokens more ++ rest) (omega arith) (addends_end_product more rest e))
-        (addends_built more n (Join Difference left (product_tree p)) rest (omega arith) e)
+      (product_built p n (addend_tokens more ++ rest) (omega arith) (addends_end_product more rest e))
+      (addends_built more n (Join Difference left (product_tree p)) rest (omega arith) e)
 
   product_built : (p : ProductPhrase) (n : ℕ) (rest : List Token) → product_calls p ≤ n → EndsProduct rest → product_at n (product_tokens p ++ rest) ≡ Some (product_tree p, rest)
   product_built (ProductOf u more) zero rest h e = absurd (omega arith)
   product_built (ProductOf u more) (suc n) rest h e =
       ap (product_at (suc n)) (append_assoc (unary_tokens u) (factor_tokens more) rest)
       ∙ chain (unary_at n (unary_tokens u ++ (factor_tokens more ++ rest))) (λ q. factors_at n q.0 q.1) (unary_tree u, factor_tokens more ++ rest) (with_factors more (unary_tree u), rest)
-        (unary_built u n (factor_tokens more ++ rest) (omega arith))
-        (factors_built more n (unary_tree u) rest (omega arith) e)
+      (unary_built u n (factor_tokens more ++ rest) (omega arith))
+      (factors_built more n (unary_tree u) rest (omega arith) e)
 
   factors_built : (more : Factors) (n : ℕ) (left : Tree) (rest : List Token) → factor_calls more ≤ n → EndsProduct rest → factors_at n left (factor_tokens more ++ rest) ≡ Some (with_factors more left, rest)
   factors_built NoFactor zero left rest h e = absurd (omega arith)
@@ -187,8 +187,8 @@ mutual
   factors_built (Multiplied u more) (suc n) left rest h e =
       ap (λ (ts : List Token). factors_at (suc n) left (token.Times ∷ ts)) (append_assoc (unary_tokens u) (factor_tokens more) rest)
       ∙ chain (unary_at n (unary_tokens u ++ (factor_tokens more ++ rest))) (λ q. factors_at n (Join Product left q.0) q.1) (unary_tree u, factor_tokens more ++ rest) (with_factors more (Join Product left (unary_tree u)), rest)
-        (unary_built u n (factor_tokens more ++ rest) (omega arith))
-        (factors_built more n (Join Product left (unary_tree u)) rest (omega arith) e)
+      (unary_built u n (factor_tokens more ++ rest) (omega arith))
+      (factors_built more n (Join Product left (unary_tree u)) rest (omega arith) e)
 
   unary_built : (u : UnaryPhrase) (n : ℕ) (rest : List Token) → unary_calls u ≤ n → unary_at n (unary_tokens u ++ rest) ≡ Some (unary_tree u, rest)
   unary_built (Negated u) zero rest h = absurd (omega arith)

@@ -96,6 +96,7 @@ most_open_more s m n (x ∷ xs) t h k = after (λ a e. most_open_more a m n xs t
   where
     over : (a b c d : ℕ) → b ≡ max c d → max a b ≡ max (max a c) d
     over a b c d e = omega arith
+
     after : ((a : State) → run a xs ≡ Some m → most_open (length a.open_brackets) (xs ++ t ∷ []) ≡ max (most_open (length a.open_brackets) xs) (length n.open_brackets)) → (r : Option State) → step s x ≡ r → option_and_then (λ a. run a xs) r ≡ Some m → most_open (length s.open_brackets) ((x ∷ xs) ++ t ∷ []) ≡ max (most_open (length s.open_brackets) (x ∷ xs)) (length n.open_brackets)
     after ih None e h = cc
     after ih (Some a) e h =

@@ -1,10 +1,11 @@
 -- The canonical text is read as the same relation.
-use Rattle.std.proofs.Common.{◌≡◌, ℕ, ◌+◌, ◌-◌, ◌*◌, ◌^◌, ◌<◌, ◌≤◌, ◌==◌, nat_le, inl, inr, Bool, true, false, List, [], ◌∷◌, ◌++◌, length, drop, Option, Some, None, pos, negsuc, refl, sym, ap, ◌∙◌, subst, append_assoc, append-nil, length-append, arith}
+use Rattle.std.proofs.Common.{◌≡◌, ℕ, ◌+◌, ◌-◌, ◌*◌, ◌^◌, ◌<◌, ◌≤◌, ◌==◌, ◌&&◌, not, nat_le, inl, inr, Bool, true, false, List, [], ◌∷◌, ◌++◌, length, drop, Option, Some, None, pos, negsuc, refl, sym, ap, ◌∙◌, subst, append_assoc, append-nil, length-append, arith}
 use Rattle.std.specs.Prelude.{codes, decimal, max, slice_index}
+use Rattle.std.specs.List.{list_all}
 use Rattle.std.proofs.Math.Seq.{drop-append_seam}
 use Rattle.std.proofs.lemmas.Bool.Decides.{nat_tests}
 use Rattle.std.proofs.lemmas.Fmt.{decimal_nonempty, length-decimal-le}
-use Rattle.log_spelling.specs.Names.{is_letter, is_name, is_name_byte}
+use Rattle.log_spelling.specs.Names.{is_letter, is_name, is_name_byte, is_reserved}
 use Rattle.log_spelling.specs.Numbers.{is_digit}
 use Rattle.log_spelling.proofs.Printed.{all_digits}
 use Rattle.expr_tree.specs.declared.RelOp.{RelOp}
@@ -142,6 +143,7 @@ opens (Apply op a) n m ts h k =
         let same : n + 1 - 1 ≡ n = omega arith in
         let e = ap (λ i. most_open i ts) same in
         omega (arith, e, h, k)
+
     front : (op : Unary) → most_open (n + 1) ((tree_tokens a ++ token.Close ∷ []) ++ ts) ≤ m → n + 1 ≤ m → most_open n ((unary_start op ++ (tree_tokens a ++ token.Close ∷ [])) ++ ts) ≤ m
     front Minus h k = omega (arith, h, k)
     front Square h k = omega (arith, h, k)
@@ -159,14 +161,17 @@ opens (Join op a b) n m ts h k =
         let same : n + 1 - 1 ≡ n = omega arith in
         let e = ap (λ i. most_open i ts) same in
         omega (arith, e, h, k)
+
     middle : (op : Binary) (us : List Token) → most_open (n + 1) us ≤ m → n + 1 ≤ m → most_open (n + 1) (binary_token op ∷ us) ≤ m
     middle Sum us h k = omega (arith, h, k)
     middle Difference us h k = omega (arith, h, k)
     middle Product us h k = omega (arith, h, k)
     middle Least us h k = omega (arith, h, k)
     middle Greatest us h k = omega (arith, h, k)
+
     regrouped : (tree_tokens a ++ binary_token op ∷ (tree_tokens b ++ token.Close ∷ [])) ++ ts ≡ tree_tokens a ++ binary_token op ∷ (tree_tokens b ++ token.Close ∷ ts)
     regrouped = append_assoc (tree_tokens a) (binary_token op ∷ (tree_tokens b ++ token.Close ∷ [])) ts ∙ ap (λ (us : List Token). tree_tokens a ++ binary_token op ∷ us) (append_assoc (tree_tokens b) (token.Close ∷ []) ts)
+
     front : (op : Binary) (us : List Token) → most_open (n + 1) (us ++ ts) ≤ m → n + 1 ≤ m → most_open n ((binary_start op ++ us) ++ ts) ≤ m
     front Sum us h k = omega (arith, h, k)
     front Difference us h k = omega (arith, h, k)
@@ -200,9 +205,9 @@ letter_no_equals c h = grind (arith, nat_tests)
 reference_letter : (bytes more : List ℕ) → IsReference bytes → is_letter (slice_index (bytes ++ more) 0) ≡ true
 reference_letter bytes more (inl h) = front_letter bytes more (name_parts bytes h).letter
 reference_letter bytes more (inr r) = elim r.2 [
-    inl e ↦ of (codes ".x") e
+  | inl e ↦ of (codes ".x") e
   | inr e ↦ of (codes ".y") e
-  ]
+]
   where
     of : (tail : List ℕ) → bytes ≡ r.0 ++ tail → is_letter (slice_index (bytes ++ more) 0) ≡ true
     of tail e =
@@ -297,10 +302,10 @@ begins (Join op a b) h more d ts rest k =
     let first = begins a h.0 (binary_between op ++ ((tree_text b ++ 41 ∷ []) ++ more)) (between_delimits op _) (binary_token op ∷ ((tree_tokens b ++ token.Close ∷ []) ++ ts)) rest middle in
     regrouped (binary_front op) (tree_text a ++ (binary_between op ++ (tree_text b ++ 41 ∷ []))) more (binary_start op) (tree_tokens a ++ binary_token op ∷ (tree_tokens b ++ token.Close ∷ [])) ts rest
     (binary_begins op _ _ rest
-      (let P : List ℕ → Type 0 = λ xs. Begins xs ((tree_tokens a ++ binary_token op ∷ (tree_tokens b ++ token.Close ∷ [])) ++ ts) rest in
-       let Q : List Token → Type 0 = λ us. Begins (tree_text a ++ (binary_between op ++ ((tree_text b ++ 41 ∷ []) ++ more))) us rest in
-       subst P (sym (append_assoc (tree_text a) (binary_between op ++ (tree_text b ++ 41 ∷ [])) more ∙ ap (λ (xs : List ℕ). tree_text a ++ xs) (append_assoc (binary_between op) (tree_text b ++ 41 ∷ []) more)))
-       (subst Q (sym (append_assoc (tree_tokens a) (binary_token op ∷ (tree_tokens b ++ token.Close ∷ [])) ts)) first)))
+    (let P : List ℕ → Type 0 = λ xs. Begins xs ((tree_tokens a ++ binary_token op ∷ (tree_tokens b ++ token.Close ∷ [])) ++ ts) rest in
+    let Q : List Token → Type 0 = λ us. Begins (tree_text a ++ (binary_between op ++ ((tree_text b ++ 41 ∷ []) ++ more))) us rest in
+    subst P (sym (append_assoc (tree_text a) (binary_between op ++ (tree_text b ++ 41 ∷ [])) more ∙ ap (λ (xs : List ℕ). tree_text a ++ xs) (append_assoc (binary_between op) (tree_text b ++ 41 ∷ []) more)))
+    (subst Q (sym (append_assoc (tree_tokens a) (binary_token op ∷ (tree_tokens b ++ token.Close ∷ [])) ts)) first)))
 
 comparison_delimits : (op : RelOp) (more : List ℕ) → Delimited (comparison_text op ++ more)
 comparison_delimits relop.Eq more = record { name = refl; dot = refl }
@@ -334,9 +339,10 @@ no_equals (Join Greatest a b) h more = refl
 
 name_short : (name : List ℕ) → is_name name ≡ true → length name ≤ 32
 name_short name h =
-    let a = and_parts (is_letter (slice_index name 0)) _ h in
-    let b = and_parts _ _ a.1 in
-    let c = (and_parts (nat_le (length name) 32) _ b.1).0 in
+    let few = nat_le (length name) 32 && not (is_reserved name) in
+    let a = and_parts (is_letter (slice_index name 0)) (list_all is_name_byte name && few) h in
+    let b = and_parts (list_all is_name_byte name) few a.1 in
+    let c : nat_le (length name) 32 ≡ true = (and_parts (nat_le (length name) 32) (not (is_reserved name)) b.1).0 in
     grind (arith, nat_tests)
 
 reference_short : (bytes : List ℕ) → IsReference bytes → length bytes ≤ 34
@@ -344,7 +350,7 @@ reference_short bytes (inl h) = let s = name_short bytes h in omega (arith, s)
 reference_short bytes (inr r) =
     let s = name_short r.0 r.1 in
     elim r.2 [
-        inl e ↦ (let l = ap length e in omega (arith, s, l, length-append r.0 (codes ".x")))
+      | inl e ↦ (let l = ap length e in omega (arith, s, l, length-append r.0 (codes ".x")))
       | inr e ↦ (let l = ap length e in omega (arith, s, l, length-append r.0 (codes ".y")))
     ]
 

@@ -58,8 +58,8 @@ word_fits text h =
     let most : n ≤ length text = prefix_len-le-length is_name_byte text in
     pick (Fits (length text)) (is_name (take n text)) _ _
     (λ _. pick (Fits (length text)) (is_coordinate (drop n text)) _ _
-        (λ e. let two : 2 ≤ length (drop n text) = coordinate_fits (drop n text) e in (omega arith, omega (arith, two, length-drop n text)))
-        (λ _. (some, most)))
+    (λ e. let two : 2 ≤ length (drop n text) = coordinate_fits (drop n text) e in (omega arith, omega (arith, two, length-drop n text)))
+    (λ _. (some, most)))
     (λ _. of (function_of (take n text)) some most)
   where
     of : (m : Option Token) → 0 < prefix_len is_name_byte text → prefix_len is_name_byte text ≤ length text → Fits (length text) (option_map (λ function. (function, prefix_len is_name_byte text)) m)

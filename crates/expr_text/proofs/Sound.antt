@@ -119,10 +119,10 @@ parted [] right ts w = tt
 parted (bracket.Last ∷ bs) right ts w = tt
 parted (bracket.First ∷ bs) right ts w = λ u.
     alone (Before (bracket.Last ∷ bs) right) (ts ++ token.Comma ∷ []) u (λ b.
-        let tail = sum_tokens b ++ token.Close ∷ [] in
-        let same : (ts ++ token.Comma ∷ []) ++ tail ≡ w.0 ++ (sum_tokens w.1 ++ token.Comma ∷ tail) =
-            append_assoc ts (token.Comma ∷ []) tail ∙ ap (λ (xs : List Token). xs ++ token.Comma ∷ tail) w.2 ∙ append_assoc w.0 (sum_tokens w.1) (token.Comma ∷ tail) in
-        subst (Whole bs right) (sym same) (w.3 w.1 b))
+    let tail = sum_tokens b ++ token.Close ∷ [] in
+    let same : (ts ++ token.Comma ∷ []) ++ tail ≡ w.0 ++ (sum_tokens w.1 ++ token.Comma ∷ tail) =
+    append_assoc ts (token.Comma ∷ []) tail ∙ ap (λ (xs : List Token). xs ++ token.Comma ∷ tail) w.2 ∙ append_assoc w.0 (sum_tokens w.1) (token.Comma ∷ tail) in
+    subst (Whole bs right) (sym same) (w.3 w.1 b))
 
 compared : (op : RelOp) (bs : List Bracket) (right : Bool) (ts : List Token) → Whole bs right ts → Held (step (state wanted.Operator bs right) (token.Compare op)) (ts ++ token.Compare op ∷ [])
 unfolding step
@@ -157,9 +157,10 @@ at_start u = alone (Before [] false) [] u refl
 
 -- a whole relation
 pub whole : (ts : List Token) → Whole [] true ts → (phrase : RelationPhrase) × (relation_tokens phrase ≡ ts)
-whole ts w =
-    (record { op = w.3.1; left = w.3.0; right = w.1 },
-     sym (w.2 ∙ ap (λ (xs : List Token). xs ++ sum_tokens w.1) w.3.2 ∙ append_assoc (sum_tokens w.3.0) (token.Compare w.3.1 ∷ []) (sum_tokens w.1)))
+whole ts w = (
+  record { op = w.3.1; left = w.3.0; right = w.1 },
+  sym (w.2 ∙ ap (λ (xs : List Token). xs ++ sum_tokens w.1) w.3.2 ∙ append_assoc (sum_tokens w.3.0) (token.Compare w.3.1 ∷ []) (sum_tokens w.1)),
+)
 
 -- what begins a beginning is one
 pub sooner : (ts more : List Token) → CanBegin (ts ++ more) → CanBegin ts
@@ -170,9 +171,11 @@ zero_unary = Plain (Literal (pos 0))
 
 begins_whole : (bs : List Bracket) (right : Bool) (ts : List Token) → Whole bs right ts → CanBegin ts
 begins_whole [] false ts w =
-    let s = lone_sum zero_unary in
-    (token.Compare relop.Eq ∷ sum_tokens s, record { op = relop.Eq; left = w.1; right = s },
-     ap (λ (xs : List Token). xs ++ token.Compare relop.Eq ∷ sum_tokens s) (sym (w.2 ∙ ap (λ (xs : List Token). xs ++ sum_tokens w.1) w.3)))
+    let s = lone_sum zero_unary in (
+      token.Compare relop.Eq ∷ sum_tokens s,
+      record { op = relop.Eq; left = w.1; right = s },
+      ap (λ (xs : List Token). xs ++ token.Compare relop.Eq ∷ sum_tokens s) (sym (w.2 ∙ ap (λ (xs : List Token). xs ++ sum_tokens w.1) w.3)),
+    )
 begins_whole [] true ts w = let r = whole ts w in ([], r.0, r.1 ∙ sym (append-nil ts))
 begins_whole (bracket.Last ∷ bs) right ts w =
     sooner ts (token.Close ∷ []) (begins_whole bs right _ (subst (Whole bs right) (sym (ends_with w.0 ts (sum_tokens w.1) token.Close w.2)) (w.3 w.1)))

@@ -64,10 +64,10 @@ goes_on ts us rest f b = sooner (ts ++ f.next ∷ []) f.more (subst CanBegin (f.
 pub one_text : (text : List ℕ) (p q : RelationPhrase) → Spells text p → Spells text q → relation_tokens p ≡ relation_tokens q
 unfolding Compared
 one_text text p q b d = elim (compared text (relation_tokens p) (relation_tokens q) [] [] b d) [
-    inl h ↦ h.0
+  | inl h ↦ h.0
   | inr (inl h) ↦ absurd (nothing _ h.stands)
   | inr (inr h) ↦ absurd (nothing _ h.stands)
-  ]
+]
 
 whole_begins : (p : RelationPhrase) → CanBegin (relation_tokens p)
 whole_begins p = ([], p, sym (append-nil (relation_tokens p)))
@@ -75,18 +75,18 @@ whole_begins p = ([], p, sym (append-nil (relation_tokens p)))
 pub fault_or_relation : (text : List ℕ) (place : ℕ) (p : RelationPhrase) → FaultAt text place → Spells text p → ⊥
 unfolding Compared
 fault_or_relation text place p f b = elim (compared text f.tokens (relation_tokens p) f.rest [] f.begins b) [
-    inl h ↦ (let P : List ℕ → Type 0 = λ r. Stops f.tokens r in subst P h.1 f.stops) p (sym h.0)
+  | inl h ↦ (let P : List ℕ → Type 0 = λ r. Stops f.tokens r in subst P h.1 f.stops) p (sym h.0)
   | inr (inl h) ↦ stopped f.tokens f.rest h.next h.size f.stops h.stands (goes_on f.tokens (relation_tokens p) f.rest h (whole_begins p))
   | inr (inr h) ↦ nothing _ h.stands
-  ]
+]
 
 pub one_fault : (text : List ℕ) (a b : ℕ) → FaultAt text a → FaultAt text b → a ≡ b
 unfolding Compared
 one_fault text a b f g = elim (compared text f.tokens g.tokens f.rest g.rest f.begins g.begins) [
-    inl h ↦ (let e = ap length h.1 in omega (arith, e, f.place_is, g.place_is))
+  | inl h ↦ (let e = ap length h.1 in omega (arith, e, f.place_is, g.place_is))
   | inr (inl h) ↦ absurd (stopped f.tokens f.rest h.next h.size f.stops h.stands (goes_on f.tokens g.tokens f.rest h g.viable))
   | inr (inr h) ↦ absurd (stopped g.tokens g.rest h.next h.size g.stops h.stands (goes_on g.tokens f.tokens g.rest h f.viable))
-  ]
+]
 
 -- tokens derive one relation at most
 pub one_relation : (p q : RelationPhrase) → relation_tokens p ≡ relation_tokens q → phrase_relation p ≡ phrase_relation q
@@ -105,7 +105,7 @@ limits_apart text p q b d w l =
     let depth = ap relation_depth r in
     let brackets = ap (most_open 0) e in
     elim l [
-        inl h ↦ omega (arith, h, w.nodes, nodes)
+      | inl h ↦ omega (arith, h, w.nodes, nodes)
       | inr (inl h) ↦ omega (arith, h, w.depth, depth)
       | inr (inr h) ↦ omega (arith, h, w.brackets, brackets)
     ]

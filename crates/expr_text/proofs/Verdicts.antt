@@ -27,7 +27,7 @@ ran_more s n tokens t h k = one_more s tokens t h ∙ ap (option_and_then (λ m.
 pub not_taken : (s : State) (tokens : List Token) (t : Token) → run start tokens ≡ Some s → step s t ≡ None → CanBegin (tokens ++ t ∷ []) → ⊥
 not_taken s tokens t h k b =
     let none : run start ((tokens ++ t ∷ []) ++ b.0) ≡ None =
-        run_append start (tokens ++ t ∷ []) b.0 ∙ ap (option_and_then (λ n. run n b.0)) (one_more s tokens t h ∙ ap (option_and_then (λ m. Some m)) k) in
+    run_append start (tokens ++ t ∷ []) b.0 ∙ ap (option_and_then (λ n. run n b.0)) (one_more s tokens t h ∙ ap (option_and_then (λ m. Some m)) k) in
     let some = sym (ap (run start) b.2) ∙ relation_runs b.1 in
     clash _ none some
   where

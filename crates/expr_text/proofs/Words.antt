@@ -87,19 +87,20 @@ coordinate_at name tail more h e k two =
     let letter = front_letter name (tail ++ more) parts.letter in
     let len = passes is_name_byte name (tail ++ more) parts.bytes e refl in
     let cut : take (length name + 2) (name ++ (tail ++ more)) ≡ name ++ tail =
-        take-append-add name (tail ++ more) 2 ∙ ap (λ (xs : List ℕ). name ++ xs) (ap (λ n. take n (tail ++ more)) (sym two) ∙ take-append_seam tail more) in
+    take-append-add name (tail ++ more) 2 ∙ ap (λ (xs : List ℕ). name ++ xs) (ap (λ n. take n (tail ++ more)) (sym two) ∙ take-append_seam tail more) in
     rw (letter_no_digit (slice_index (name ++ (tail ++ more)) 0) letter, letter, len, take-append_seam name (tail ++ more), h, drop-append_seam name (tail ++ more), k, cut) refl
 
 -- the token of a reference, its bytes and what is behind them
 pub reference_at : (bytes more : List ℕ) → IsReference bytes → Delimited more → token_at (bytes ++ more) ≡ Some (token.Name bytes, length bytes)
 reference_at bytes more (inl h) d = name_at bytes more h d
 reference_at bytes more (inr r) d = elim r.2 [
-    inl e ↦ of (codes ".x") e refl refl refl
+  | inl e ↦ of (codes ".x") e refl refl refl
   | inr e ↦ of (codes ".y") e refl refl refl
-  ]
+]
   where
     size : (tail : List ℕ) → length tail ≡ 2 → length r.0 + 2 ≡ length (r.0 ++ tail)
     size tail two = omega (arith, two, length-append r.0 tail)
+
     of : (tail : List ℕ) → bytes ≡ r.0 ++ tail → is_name_byte (slice_index (tail ++ more) 0) ≡ false → is_coordinate (tail ++ more) ≡ true → length tail ≡ 2 → token_at (bytes ++ more) ≡ Some (token.Name bytes, length bytes)
     of tail e a b two =
         let P : List ℕ → Type 0 = λ xs. token_at (xs ++ more) ≡ Some (token.Name xs, length xs) in

@@ -18,11 +18,8 @@ fn is_within_levels(term: &Term, levels: u32) -> bool
     match term {
         Term::Num(_) | Term::Name(_) => true,
         Term::Neg(a) | Term::Sqr(a) | Term::Abs(a) => is_within_levels(a, levels - 1),
-        Term::Add(a, b)
-        | Term::Sub(a, b)
-        | Term::Mul(a, b)
-        | Term::Min(a, b)
-        | Term::Max(a, b) => is_within_levels(a, levels - 1) && is_within_levels(b, levels - 1),
+        Term::Add(a, b) | Term::Sub(a, b) | Term::Mul(a, b) | Term::Min(a, b) | Term::Max(a, b) =>
+            is_within_levels(a, levels - 1) && is_within_levels(b, levels - 1),
     }
 }
 

@@ -75,11 +75,7 @@ fn append_term(out: &mut Vec<u8>, term: &Term) -> Result<(), NoMemory>
             append_term(out, a)?;
             append(out, b")")
         }
-        Term::Add(a, b)
-        | Term::Sub(a, b)
-        | Term::Mul(a, b)
-        | Term::Min(a, b)
-        | Term::Max(a, b) => {
+        Term::Add(a, b) | Term::Sub(a, b) | Term::Mul(a, b) | Term::Min(a, b) | Term::Max(a, b) => {
             append(out, front(term))?;
             append_term(out, a)?;
             append(out, between(term))?;

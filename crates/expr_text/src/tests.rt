@@ -98,7 +98,10 @@ fn prints_what_it_reads(rt: HostRuntime) -> Result<(), NoMemory> {
         (b"b1.x-b1.y>0", b"(b1.x-b1.y)>0"),
         (b"max(abs(x),1+2)=3", b"max(abs(x),(1+2))=3"),
         (b"minimum=absent", b"minimum=absent"),
-        (b"abcdefghijklmnopqrstuvwxyz012345.y<x", b"abcdefghijklmnopqrstuvwxyz012345.y<x"),
+        (
+            b"abcdefghijklmnopqrstuvwxyz012345.y<x",
+            b"abcdefghijklmnopqrstuvwxyz012345.y<x",
+        ),
     ];
     for (text, canonical) in cases {
         match read(alloc, text) {

@@ -17,6 +17,6 @@ returns-else-self-le-MAX_NODES-clause-goes c = λ tokens h.
     follows_more tokens c.args.self.now _ c.args.token h (takes_true _ _ _ c.if-not-branch.false c.in_ok-take.ensures)
     (ap (λ n. c.args.self.now.nodes + n) c.token_nodes.ensures.value) (grind (arith, c.max-self.ensures, c.open_count.ensures))
     (λ _ _ a b. elim c.else-self-le-MAX_NODES.branch [
-        else-self-le-MAX_NODES-via-then-self-le-MAX_NODES+else-self-le-MAX_OPEN w ↦ absurd (omega (arith, b))
+      | else-self-le-MAX_NODES-via-then-self-le-MAX_NODES+else-self-le-MAX_OPEN w ↦ absurd (omega (arith, b))
       | else-self-le-MAX_NODES-via-else-self-le-MAX_NODES w ↦ absurd (omega (arith, a))
     ])
