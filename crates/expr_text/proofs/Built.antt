@@ -1,11 +1,11 @@
 -- The tree that is built of a phrase is the phrase's, and what stands behind it is left.
-use Rattle.std.proofs.Common.{◌≡◌, ℕ, zero, suc, ◌+◌, ◌-◌, ◌*◌, ◌<◌, ◌≤◌, List, [], ◌∷◌, ◌++◌, length, Option, Some, None, refl, sym, ap, ◌∙◌, append_assoc, append-nil, arith, length-append}
-use Rattle.std.specs.Prelude.{option_and_then, option_map}
-use Rattle.expr_tree.specs.Trees.{Tree, Number, Named, Apply, Join, Unary, Binary, Minus, Square, Absolute, Sum, Difference, Product, Least, Greatest}
+use Rattle.std.proofs.Common.{◌≡◌, ℕ, zero, suc, ◌+◌, ◌*◌, ◌≤◌, List, [], ◌∷◌, ◌++◌, length, Option, Some, refl, sym, ap, ◌∙◌, append_assoc, append-nil, arith, length-append}
+use Rattle.std.specs.Prelude.{option_and_then}
+use Rattle.expr_tree.specs.Trees.{Tree, Join, Minus, Square, Absolute, Sum, Difference, Product, Least, Greatest}
 use Rattle.expr_text.specs.declared.token.Token.{Token}
 use Rattle.expr_text.specs.declared.token.Token.TheVariants as token
 use Rattle.expr_text.specs.Grammar.{SumPhrase, SumOf, Addends, NoAddend, Added, Subtracted, ProductPhrase, ProductOf, Factors, NoFactor, Multiplied, UnaryPhrase, Negated, Plain, PrimaryPhrase, Literal, Symbol, Bracketed, SquareOf, AbsoluteOf, LeastOf, GreatestOf, RelationPhrase, sum_tokens, addend_tokens, product_tokens, factor_tokens, unary_tokens, primary_tokens, relation_tokens, phrase_relation, sum_tree, with_addends, product_tree, with_factors, unary_tree, primary_tree}
-use Rattle.expr_text.specs.Descent.{Read, ReadTwo, closes, closes_two, with_unary, with_binary, sum_at, addends_at, product_at, factors_at, unary_at, bracket_at, pair_at, second_at, ends, right_at, relation_at}
+use Rattle.expr_text.specs.Descent.{closes, closes_two, with_unary, with_binary, sum_at, addends_at, product_at, factors_at, unary_at, second_at, ends, right_at, relation_at}
 
 -- how many calls a phrase takes
 abbrev mutual

@@ -1,5 +1,5 @@
 -- What the acceptor's brackets say of the tokens.
-use Rattle.std.proofs.Common.{◌≡◌, ℕ, ◌+◌, ◌-◌, Bool, true, false, List, [], ◌∷◌, ◌++◌, length, Option, Some, None, refl, sym, ap, ◌∙◌, subst, arith}
+use Rattle.std.proofs.Common.{◌≡◌, ℕ, ◌-◌, Bool, true, false, List, [], ◌∷◌, ◌++◌, length, Option, Some, None, refl, sym, ap, ◌∙◌, subst, arith}
 use Rattle.std.specs.Prelude.{max, option_and_then}
 use Rattle.expr_text.specs.declared.token.Token.{Token}
 use Rattle.expr_text.specs.declared.token.Token.TheVariants as token
@@ -7,7 +7,7 @@ use Rattle.expr_text.specs.declared.acceptor.Bracket.{Bracket}
 use Rattle.expr_text.specs.declared.acceptor.Bracket.TheVariants as bracket
 use Rattle.expr_text.specs.declared.acceptor.Wanted.{Wanted}
 use Rattle.expr_text.specs.declared.acceptor.Wanted.TheVariants as wanted
-use Rattle.expr_text.specs.Acceptor.{State, state, step, run, start}
+use Rattle.expr_text.specs.Acceptor.{State, state, step, run}
 use Rattle.expr_text.specs.Reading.{most_open, open_behind}
 
 -- so many brackets are open in the next state

@@ -1,5 +1,5 @@
 -- A tree has a leaf.
-use Rattle.std.proofs.Common.{ℕ, ◌<◌, arith}
+use Rattle.std.proofs.Common.{◌<◌, arith}
 use Rattle.expr_tree.specs.Trees.{Tree, Number, Named, Apply, Join}
 use Rattle.expr_tree.specs.Measures.{depth}
 

@@ -1,5 +1,5 @@
 -- Where the first fault stands.
-use Rattle.std.proofs.Common.{◌≡◌, ◌≢◌, ℕ, ◌+◌, ◌-◌, ◌<◌, ◌≤◌, true, false, List, [], ◌∷◌, ◌++◌, length, drop, Option, Some, None, refl, sym, ap, ◌∙◌, subst, arith}
+use Rattle.std.proofs.Common.{◌≡◌, ℕ, ◌-◌, ◌<◌, ◌≤◌, true, false, List, [], ◌∷◌, ◌++◌, length, drop, Option, Some, None, refl, sym, ◌∙◌, subst, arith}
 use Rattle.expr_text.specs.declared.token.Token.{Token}
 use Rattle.expr_text.specs.declared.scan.Scan.{Scan}
 use Rattle.expr_text.specs.Spelling.{token_at, without_spaces}

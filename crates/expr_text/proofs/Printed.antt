@@ -1,6 +1,6 @@
 -- The canonical text is read as the same relation.
-use Rattle.std.proofs.Common.{◌≡◌, ℕ, ◌+◌, ◌-◌, ◌*◌, ◌^◌, ◌<◌, ◌≤◌, ◌==◌, ◌&&◌, not, nat_le, inl, inr, Bool, true, false, List, [], ◌∷◌, ◌++◌, length, drop, Option, Some, None, pos, negsuc, refl, sym, ap, ◌∙◌, subst, append_assoc, append-nil, length-append, arith}
-use Rattle.std.specs.Prelude.{codes, decimal, max, slice_index}
+use Rattle.std.proofs.Common.{◌≡◌, ℕ, ◌+◌, ◌-◌, ◌*◌, ◌<◌, ◌≤◌, ◌==◌, ◌&&◌, not, nat_le, inl, inr, true, false, List, [], ◌∷◌, ◌++◌, length, drop, Some, pos, negsuc, refl, sym, ap, ◌∙◌, subst, append_assoc, append-nil, length-append, arith}
+use Rattle.std.specs.Prelude.{codes, decimal, slice_index}
 use Rattle.std.specs.List.{list_all}
 use Rattle.std.proofs.Math.Seq.{drop-append_seam}
 use Rattle.std.proofs.lemmas.Bool.Decides.{nat_tests}
@@ -15,7 +15,7 @@ use Rattle.expr_tree.specs.Measures.{depth, nodes, relation_depth, relation_node
 use Rattle.expr_text.specs.declared.token.Token.{Token}
 use Rattle.expr_text.specs.declared.token.Token.TheVariants as token
 use Rattle.expr_text.specs.Spelling.{function_of, symbol_at, token_at, without_spaces, word_at}
-use Rattle.expr_text.specs.Grammar.{SumPhrase, SumOf, Addends, NoAddend, Added, Subtracted, ProductPhrase, ProductOf, Factors, NoFactor, Multiplied, UnaryPhrase, Negated, Plain, PrimaryPhrase, Literal, Symbol, Bracketed, SquareOf, AbsoluteOf, LeastOf, GreatestOf, RelationPhrase, sum_tokens, addend_tokens, product_tokens, factor_tokens, unary_tokens, primary_tokens, relation_tokens, phrase_relation, sum_tree, primary_tree}
+use Rattle.expr_text.specs.Grammar.{SumPhrase, SumOf, NoAddend, Added, Subtracted, ProductPhrase, ProductOf, NoFactor, Multiplied, Negated, Plain, PrimaryPhrase, Literal, Symbol, Bracketed, SquareOf, AbsoluteOf, LeastOf, GreatestOf, RelationPhrase, sum_tokens, product_tokens, primary_tokens, relation_tokens, phrase_relation, primary_tree}
 use Rattle.expr_text.specs.Reading.{Begins, most_open}
 use Rattle.expr_text.specs.Canonical.{binary_between, binary_front, comparison_text, relation_text, tree_text, unary_front}
 use Rattle.expr_text.specs.Spellable.{IsPrintable, IsReadAgain, IsReference, IsSpellable}

@@ -11,7 +11,7 @@ use Rattle.expr_text.specs.declared.acceptor.Wanted.{Wanted}
 use Rattle.expr_text.specs.declared.acceptor.Wanted.TheVariants as wanted
 use Rattle.expr_text.specs.Grammar.{SumPhrase, UnaryPhrase, Negated, Plain, Literal, Symbol, Bracketed, SquareOf, AbsoluteOf, LeastOf, GreatestOf, RelationPhrase, sum_tokens, unary_tokens, relation_tokens}
 use Rattle.expr_text.specs.Reading.{CanBegin}
-use Rattle.expr_text.specs.Acceptor.{State, state, step, run, start}
+use Rattle.expr_text.specs.Acceptor.{State, state, step, run}
 use Rattle.expr_text.proofs.Grown.{lone_sum, lone_sum_tokens, with_plus, with_minus, with_times}
 
 -- tokens that end in a sum, and what holds of those before it

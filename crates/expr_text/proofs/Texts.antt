@@ -1,5 +1,5 @@
 -- Tokens of a text, one after the other.
-use Rattle.std.proofs.Common.{◌≡◌, ℕ, ◌==◌, Bool, true, false, cond, ◌+◌, ◌<◌, ◌≤◌, List, [], ◌∷◌, ◌++◌, length, drop, Option, Some, None, refl, sym, ap, ◌∙◌, subst, arith}
+use Rattle.std.proofs.Common.{◌≡◌, ℕ, ◌==◌, Bool, true, false, cond, ◌≤◌, List, [], ◌∷◌, ◌++◌, length, drop, Some, ap, ◌∙◌, arith}
 use Rattle.expr_text.specs.declared.token.Token.{Token}
 use Rattle.expr_text.specs.Spelling.{token_at, without_spaces}
 use Rattle.expr_text.specs.Reading.{Begins}

@@ -1,11 +1,10 @@
 -- A text has one answer.
-use Rattle.std.proofs.Common.{◌≡◌, ℕ, ◌+◌, ◌*◌, ◌<◌, ◌≤◌, ◌⊎◌, inl, inr, List, [], ◌∷◌, ◌++◌, length, drop, Option, Some, None, Ok, Err, refl, sym, ap, ◌∙◌, subst, append_assoc, append-nil, arith}
+use Rattle.std.proofs.Common.{◌≡◌, ℕ, ◌*◌, ◌⊎◌, inl, inr, List, [], ◌∷◌, ◌++◌, length, drop, Option, Some, None, Ok, Err, refl, sym, ap, ◌∙◌, subst, append_assoc, append-nil, arith}
 use Rattle.std.specs.Prelude.{Result}
 use Rattle.expr_tree.specs.declared.Rel.{Rel}
-use Rattle.expr_tree.specs.Trees.{Relation, relation_of}
+use Rattle.expr_tree.specs.Trees.{Relation}
 use Rattle.expr_tree.specs.Measures.{relation_depth, relation_nodes}
 use Rattle.expr_text.specs.declared.token.Token.{Token}
-use Rattle.expr_text.specs.declared.token.Token.TheVariants as token
 use Rattle.expr_text.specs.declared.fault.ExprFault.{ExprFault}
 use Rattle.expr_text.specs.declared.fault.ExprFault.TheVariants as fault
 use Rattle.expr_text.specs.Spelling.{token_at, symbol_at, without_spaces}

@@ -1,5 +1,5 @@
 -- What the acceptor's answers mean for the grammar.
-use Rattle.std.proofs.Common.{◌≡◌, ◌≢◌, ℕ, ◌+◌, ◌≤◌, Bool, true, false, List, [], ◌∷◌, ◌++◌, length, Option, Some, None, refl, sym, ap, ◌∙◌, subst, append_assoc, arith}
+use Rattle.std.proofs.Common.{◌≡◌, ◌≢◌, ◌+◌, ◌≤◌, Bool, true, false, List, [], ◌∷◌, ◌++◌, length, Option, Some, None, sym, ap, ◌∙◌, subst, arith}
 use Rattle.std.specs.Prelude.{max, option_and_then, sum_by}
 use Rattle.std.proofs.lemmas.List.Sums.{sum_by-append, sum_by-cons}
 use Rattle.expr_text.specs.declared.token.Token.{Token}
@@ -10,7 +10,7 @@ use Rattle.expr_text.specs.declared.acceptor.Wanted.TheVariants as wanted
 use Rattle.expr_text.specs.Grammar.{RelationPhrase, relation_tokens}
 use Rattle.expr_text.specs.Accepts.{Takes, brackets, state_of}
 use Rattle.expr_text.specs.Acceptor.{State, is_end, is_whole, run, start, state, step}
-use Rattle.expr_text.specs.Reading.{CanBegin, most_open, token_nodes}
+use Rattle.expr_text.specs.Reading.{CanBegin, token_nodes}
 use Rattle.expr_text.specs.Scans.{Follows}
 use Rattle.expr_text.proofs.Complete.{relation_runs, run_append}
 use Rattle.expr_text.proofs.Counts.{most_open_more}

@@ -1,16 +1,15 @@
 -- What is spelled, with something behind it that ends it, is taken as that token.
-use Rattle.std.proofs.Common.{◌≡◌, ℕ, ◌+◌, ◌-◌, ◌<◌, ◌≤◌, ◌==◌, ◌&&◌, ◌||◌, not, nat_le, ◌⊎◌, inl, inr, Bool, true, false, cond, List, [], ◌∷◌, ◌++◌, length, take, drop, Option, Some, None, pos, refl, sym, ap, ◌∙◌, subst, append_assoc, length-append, arith}
-use Rattle.std.specs.Prelude.{codes, decimal, option_map, slice_index}
+use Rattle.std.proofs.Common.{◌≡◌, ℕ, ◌+◌, ◌<◌, ◌==◌, ◌&&◌, inl, inr, Bool, true, false, List, [], ◌∷◌, ◌++◌, length, take, Some, pos, refl, sym, ap, ◌∙◌, subst, append_assoc, length-append, arith}
+use Rattle.std.specs.Prelude.{codes, decimal, slice_index}
 use Rattle.std.specs.List.{list_all, prefix_len}
-use Rattle.std.proofs.Math.Seq.{take-append_seam, take-append-add, drop-append_seam, drop-append-add}
+use Rattle.std.proofs.Math.Seq.{take-append_seam, take-append-add, drop-append_seam}
 use Rattle.std.proofs.lemmas.Bool.Decides.{nat_tests}
 use Rattle.std.proofs.lemmas.Fmt.{decimal_nonempty}
-use Rattle.log_spelling.specs.Names.{is_letter, is_name, is_name_byte, is_reserved}
-use Rattle.log_spelling.specs.Numbers.{is_digit, magnitude_of}
+use Rattle.log_spelling.specs.Names.{is_letter, is_name, is_name_byte}
+use Rattle.log_spelling.specs.Numbers.{is_digit}
 use Rattle.log_spelling.proofs.Printed.{all_digits, decimal_read}
-use Rattle.expr_text.specs.declared.token.Token.{Token}
 use Rattle.expr_text.specs.declared.token.Token.TheVariants as token
-use Rattle.expr_text.specs.Spelling.{Found, function_of, is_coordinate, number_at, symbol_at, token_at, without_spaces, word_at}
+use Rattle.expr_text.specs.Spelling.{is_coordinate, number_at, token_at, word_at}
 use Rattle.expr_text.specs.Spellable.{IsReference}
 
 -- no byte of a name, and no dot, stands at the front

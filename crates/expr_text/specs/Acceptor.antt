@@ -1,5 +1,5 @@
 -- What can follow, told from the brackets that are open. The innermost bracket is the first of them.
-use Rattle.std.specs.Prelude.{ℕ, Bool, true, false, List, [], ◌∷◌, Option, Some, None, option_and_then}
+use Rattle.std.specs.Prelude.{Bool, true, false, List, [], ◌∷◌, Option, Some, None, option_and_then}
 use Rattle.expr_text.specs.declared.token.Token.{Token}
 use Rattle.expr_text.specs.declared.token.Token.TheVariants as token
 use Rattle.expr_text.specs.declared.acceptor.Bracket.{Bracket}

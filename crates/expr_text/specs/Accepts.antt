@@ -1,5 +1,5 @@
 -- The state of an acceptor, whose vector has the innermost bracket at its end.
-use Rattle.std.specs.Prelude.{◌≡◌, ℕ, Bool, true, false, List, Option, Some, None, reverse}
+use Rattle.std.specs.Prelude.{◌≡◌, Bool, true, false, List, Option, Some, None, reverse}
 use Rattle.expr_text.specs.declared.acceptor.Acceptor.{Acceptor}
 use Rattle.expr_text.specs.declared.acceptor.Bracket.{Bracket}
 use Rattle.expr_text.specs.Acceptor.{State, state}

@@ -1,5 +1,5 @@
 -- The answer to a text.
-use Rattle.std.specs.Prelude.{◌≡◌, ℕ, ◌⊎◌, List, Result, Ok, Err}
+use Rattle.std.specs.Prelude.{◌≡◌, ℕ, List, Result, Ok, Err}
 use Rattle.expr_tree.specs.declared.Rel.{Rel}
 use Rattle.expr_tree.specs.Trees.{relation_of}
 use Rattle.expr_text.specs.declared.fault.ExprFault.{ExprFault}

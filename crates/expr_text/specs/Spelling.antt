@@ -1,5 +1,5 @@
 -- How tokens are spelled: the longest token that stands at the front of a text is taken.
-use Rattle.std.specs.Prelude.{ℕ, ◌+◌, Bool, ◌==◌, ◌&&◌, ◌||◌, List, [], ◌∷◌, length, take, drop, slice_index, Option, Some, None, option_map, codes, bytes_eq, pos, if◌then◌else◌}
+use Rattle.std.specs.Prelude.{ℕ, ◌+◌, Bool, ◌==◌, ◌&&◌, ◌||◌, List, [], ◌∷◌, take, drop, slice_index, Option, Some, None, option_map, codes, bytes_eq, pos, if◌then◌else◌}
 use Rattle.std.specs.List.{prefix_len}
 use Rattle.log_spelling.specs.Names.{is_letter, is_name, is_name_byte}
 use Rattle.log_spelling.specs.Numbers.{is_digit, magnitude_of}

@@ -1,7 +1,7 @@
-use Rattle.std.proofs.Common.{◌≡◌, ◌∙◌, ap, sym, arith}
+use Rattle.std.proofs.Common.{◌∙◌, ap, sym, arith}
 use Rattle.std.proofs.lemmas.Grind.{common_steps}
 use Rattle.std.proofs.lemmas.Result.{IfOk-weaker}
-use Rattle.expr_text.specs.Builds.{seen, seen_two}
+use Rattle.expr_text.specs.Builds.{seen}
 use Rattle.expr_text.specs.Descent.{sum_at}
 use Rattle.expr_text.proofs.build.+build.Goals as goal
 use Rattle.expr_text.proofs.Calls.{sum_then, product_then}

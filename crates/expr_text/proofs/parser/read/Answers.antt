@@ -1,4 +1,4 @@
-use Rattle.std.proofs.Common.{◌≡◌, ◌∙◌, sym}
+use Rattle.std.proofs.Common.{◌∙◌, sym}
 use Rattle.expr_text.proofs.parser.read.Goals as goal
 use Rattle.expr_text.proofs.Answering.{phrased, too_large, built, not_none, is_some, within, too_deep}
 

@@ -1,4 +1,4 @@
-use Rattle.std.proofs.Common.{◌≡◌, ℕ, ◌+◌, ◌≤◌, ap, arith, rules}
+use Rattle.std.proofs.Common.{◌+◌, ap, arith, rules}
 use Rattle.expr_text.proofs.scan.Scan.take.Goals as goal
 use Rattle.expr_text.proofs.scan.Scan.take.Goals.{else-self-le-MAX_NODES-via-then-self-le-MAX_NODES+else-self-le-MAX_OPEN, else-self-le-MAX_NODES-via-else-self-le-MAX_NODES}
 use Rattle.expr_text.proofs.Verdicts.{follows_more, not_taken, takes_false, takes_true}
