@@ -15,3 +15,4 @@ pub mod Unique
 pub mod Answering
 pub mod Words
 pub mod Printed
+pub mod Examples
