@@ -1,0 +1,10 @@
+-- What is left has the same text without spaces.
+use Rattle.std.proofs.Common.{◌≡◌, length}
+use Rattle.expr_text.specs.Spelling.{without_spaces}
+use Rattle.expr_text.proofs.token.without_spaces.Given as goal
+
+abbrev pub invariant-loop-rest : goal.invariant-loop-rest
+invariant-loop-rest l = without_spaces l.rest ≡ without_spaces l.text
+
+abbrev pub decreases-loop-rest : goal.decreases-loop-rest
+decreases-loop-rest l = length l.rest

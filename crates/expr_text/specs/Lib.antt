@@ -1,0 +1,11 @@
+pub mod Spelling
+pub mod Grammar
+pub mod Reading
+pub mod Acceptor
+pub mod Accepts
+pub mod Scans
+pub mod Descent
+pub mod Builds
+pub mod Canonical
+pub mod Answers
+pub mod Spellable
