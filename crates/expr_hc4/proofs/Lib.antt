@@ -1,0 +1,9 @@
+pub mod Values
+pub mod Codes
+pub mod Runs
+pub mod Answering
+pub mod Decoding
+pub mod Frozen
+pub mod Counts
+pub mod Stable
+mod Examples

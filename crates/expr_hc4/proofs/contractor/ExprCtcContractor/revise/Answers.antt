@@ -1,0 +1,10 @@
+use Rattle.std.proofs.Common.{◌≡◌, ap, ◌∙◌}
+use Rattle.expr_hc4.specs.Programs.{bound_comparison, Program}
+use Rattle.expr_hc4.proofs.Frozen.{relation-revised}
+use Rattle.expr_hc4.proofs.contractor.ExprCtcContractor.revise.Goals as goal
+
+pub returns-clause-revised : goal.returns-clause-revised
+returns-clause-revised g c =
+    let p = c.args.self.now.flat.value in
+    relation-revised c.args.self.now.place p.leaves c.leaves.result.now (bound_comparison p) c.outcome-outcome.result c.args.store.now (c.leaves.ensures.value ∙ ap (λ (q : Program). q.leaves) c.deref.ensures) c.outcome-outcome.ensures
+    c.revise_by_formulas.new.store c.revise_by_formulas.result c.revise_by_formulas.ensures

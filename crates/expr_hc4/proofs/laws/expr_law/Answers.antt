@@ -1,0 +1,6 @@
+use Rattle.expr_hc4.specs.Uses.{uses-distinct}
+use Rattle.expr_hc4.proofs.Stable.{expr-stable, expr-within}
+use Rattle.expr_hc4.proofs.laws.expr_law.Goals as goal
+
+pub returns : goal.returns
+returns c = record { stable = expr-stable; within = expr-within; distinct = uses-distinct }

@@ -1,0 +1,6 @@
+pub mod Places
+pub mod Projections
+pub mod Programs
+pub mod Outcomes
+pub mod Uses
+pub mod ExprLaws

@@ -1,0 +1,137 @@
+ghost use Rattle.std.specs.Prelude.{◌≡◌, ◌<◌, ◌≤◌, ◌++◌, ◌∷◌, ℕ, List, true, false, length, slice_index, map, MatchBool, All, Some, None};
+ghost use Rattle.tube_spec.specs.Span.{Span};
+ghost use Rattle.tube_spec.specs.Box.{cell_at};
+ghost use Rattle.expr_values.specs.Expressions.{Comparison};
+ghost use Rattle.expr_values.specs.Operators.{is_bounded};
+ghost use Rattle.expr_values.specs.Targets.{both, targets_of, entry_narrowing};
+ghost use Rattle.expr_hc4.specs.Programs.{AreOrdered, AreValues, IsNarrowedTo, IsProgram, program_comparison, set_two, values_below, comparison_code, comparison_places};
+ghost use Rattle.ctc_core.specs.Given.{narrowing_given};
+ghost use Rattle.expr_hc4.specs.Outcomes.{outcome_at};
+ghost use Rattle.expr_values.specs.Comparisons.{left_of, right_of};
+
+use super::nodes::{Node, set_two};
+use ctc_core::Given;
+use expr_tree::RelOp;
+use expr_values::{left_of, right_of};
+use int_interval::Interval;
+
+/// The most nodes of a program.
+pub(crate) const ROOM: usize = 256;
+
+/// What a relation leaves of its name leaves.
+#[derive(Clone, Copy, Debug)]
+pub enum Outcome {
+    /// The whole line: the value of some node leaves the bound.
+    Whole,
+    /// No number: the target of some node is nothing.
+    Nothing,
+    /// The targets of the name leaves, from the left.
+    Within([Interval; 256]),
+}
+
+impl Outcome {
+    /// What is left of the name leaf with a number.
+    pub(crate) fn given(&self, i: usize) -> Given
+        requires { i < 256 }
+        ensures { narrowing_given result ≡ outcome_at self.now i }
+    {
+        match self {
+            Outcome::Whole => Given::Whole,
+            Outcome::Nothing => Given::Nothing,
+            Outcome::Within(targets) => {
+                let target = targets[i];
+                Given::Within(target)
+            }
+        }
+    }
+}
+
+/// Upward: gives each node its value. False exactly where the value of some node leaves the bound.
+pub(crate) fn evaluate(nodes: &[Node], entries: &[Interval], values: &mut [Interval]) -> bool
+    requires ordered { AreOrdered (length entries.now) nodes.now }
+    requires room { length nodes.now ≤ length values.old }
+    ensures yes { (vs : List Span) → AreValues entries.now nodes.now vs → result ≡ true → (k : ℕ) → k < length nodes.now → (cell_at values.new k ≡ cell_at vs k) × (is_bounded (cell_at vs k) ≡ true) }
+    ensures no { (vs : List Span) → AreValues entries.now nodes.now vs → result ≡ false → (k : ℕ) × (k < length nodes.now) × (is_bounded (cell_at vs k) ≡ false) }
+{
+    for i in 0..nodes.len() {
+        match nodes[i].value(i, entries, values) {
+            Some(value) => values[i] = value,
+            None => return false,
+        }
+    }
+    true
+}
+
+/// Downward: replaces each node's value by its target, from the last to the first. False exactly where the target of some node is nothing.
+pub(crate) fn narrow(nodes: &[Node], values: &mut [Interval]) -> bool
+    requires ordered { AreOrdered (length values.old) nodes.now }
+    requires room { length nodes.now ≤ length values.old }
+    ensures { (xs : List Span) (c : Comparison) (x y : Span) (more : List Span) → nodes.now ≡ comparison_code c
+        → values.old ≡ values_below xs c.left ++ (x ∷ (values_below xs c.right ++ (y ∷ more)))
+        → IsNarrowedTo result values.new (comparison_places c) (both (targets_of xs c.left x) (targets_of xs c.right y)) }
+{
+    for i in (0..nodes.len()).rev() {
+        if !nodes[i].narrow_operands(i, values) {
+            return false;
+        }
+    }
+    true
+}
+
+/// Narrows the values of the two sides of a relation, whose roots have the indices `left` and `right`, by each other. False exactly where
+/// nothing is left of one of them.
+fn compare_sides(op: RelOp, left: usize, right: usize, values: &mut [Interval]) -> bool
+    requires left { left < length values.old }
+    requires right { right < length values.old }
+    ensures { let a = cell_at values.old left in let b = cell_at values.old right in
+        MatchBool result (set_two values.old left right (left_of op a b) (right_of op a b) ≡ Some values.new) (set_two values.old left right (left_of op a b) (right_of op a b) ≡ None) }
+{
+    let a = values[left];
+    let b = values[right];
+    let left_target = left_of(op, a, b);
+    let right_target = right_of(op, a, b);
+    set_two(values, left, right, left_target, right_target)
+}
+
+/// The values in some places.
+fn gathered(places: &[usize], values: &[Interval]) -> [Interval; 256]
+    requires few { length places.now ≤ 256 }
+    requires among { All (λ p. p < length values.now) places.now }
+    ensures { (j : ℕ) → j < length places.now → cell_at result j ≡ cell_at values.now (slice_index places.now j) }
+{
+    let unset = Interval::new(0, 0).unwrap();
+    let mut targets = [unset; ROOM];
+    for j in 0..places.len() {
+        targets[j] = values[places[j]];
+    }
+    targets
+}
+
+/// What a relation leaves of its name leaves, of which `entries` are the intervals. Its nodes are those of a program, with the root of its
+/// left side at the index `left` and its name leaves at the indices `places`.
+pub(crate) fn outcome_of(
+    op: RelOp,
+    nodes: &[Node],
+    left: usize,
+    places: &[usize],
+    entries: &[Interval],
+) -> Outcome
+    requires program { IsProgram nodes.now left places.now (program_comparison op nodes.now left) }
+    requires ordered { AreOrdered (length entries.now) nodes.now }
+    requires few { length places.now ≤ 256 }
+    requires each { length entries.now ≡ length places.now }
+    ensures { (j : ℕ) → j < length places.now → outcome_at result j ≡ entry_narrowing entries.now (program_comparison op nodes.now left) j }
+{
+    let unset = Interval::new(0, 0).unwrap();
+    let mut values = [unset; ROOM];
+    if !evaluate(nodes, entries, &mut values) {
+        return Outcome::Whole;
+    }
+    if !compare_sides(op, left, nodes.len() - 1, &mut values) {
+        return Outcome::Nothing;
+    }
+    if !narrow(nodes, &mut values) {
+        return Outcome::Nothing;
+    }
+    Outcome::Within(gathered(places, &values))
+}

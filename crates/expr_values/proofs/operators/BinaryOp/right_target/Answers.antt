@@ -1,0 +1,15 @@
+use Rattle.std.proofs.Common.{sym, ap, ◌∙◌}
+use Rattle.expr_values.specs.Operators.{right_target}
+use Rattle.expr_values.specs.declared.operators.BinaryOp.{BinaryOp}
+use Rattle.expr_values.proofs.Sums.{back_add-shared, right_of_difference}
+use Rattle.expr_values.proofs.operators.BinaryOp.right_target.Goals as goal
+
+pub returns-in-Add : goal.returns-in-Add
+returns-in-Add c =
+    c.back_add.ensures.value ∙ back_add-shared c.args.b c.args.a c.args.c c.known.ensures.proper c.known-3.ensures.proper
+    ∙ ap (λ (op : BinaryOp). right_target op c.args.a c.args.b c.args.c) (sym c.in-Add.is)
+
+pub returns-in-Sub : goal.returns-in-Sub
+returns-in-Sub c =
+    c.back_add-in-Sub.ensures.value ∙ right_of_difference c.args.a c.args.b c.args.c c.neg.result c.neg-in-Sub.result c.neg.ensures.value c.neg-in-Sub.ensures.value c.known.ensures.proper c.known-3.ensures.proper
+    ∙ ap (λ (op : BinaryOp). right_target op c.args.a c.args.b c.args.c) (sym c.in-Sub.is)
