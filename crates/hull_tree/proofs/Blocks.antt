@@ -1,0 +1,190 @@
+-- Hulls over blocks of ticks, and how a level is made of the one below.
+use Rattle.std.proofs.Common.{◌≡◌, ℕ, zero, suc, ◌+◌, ◌-◌, ◌*◌, ◌/◌, ◌^◌, ◌<◌, ◌≤◌, ◌≢◌, ◌⊎◌, inl, inr, refl, List, [], ◌∷◌, ◌++◌, Vec, Global, vec_items, map, min, length, get_or, pos, arith, sym, ap, subst, ◌∙◌}
+use Rattle.std.proofs.Math.Nat.{pow-suc}
+use Rattle.std.proofs.Math.Seq.{get_or-append_seam}
+use Rattle.std.proofs.lemmas.Int.{ints, clamps}
+use Rattle.std.proofs.lemmas.List.{get_or-map, length-map, length-append, map-append}
+use Rattle.std.proofs.lemmas.Nat.{pow_pos}
+use Rattle.std.proofs.Math.ListN.{get_or-append}
+use Rattle.tube_spec.specs.Span.{Span, point}
+use Rattle.tube_spec.specs.Box.{cell_at}
+use Rattle.hull_tree.specs.declared.hulls.Bounds.{Bounds}
+use Rattle.hull_tree.specs.Judging.{bounds_of, both, bounds_over}
+use Rattle.hull_tree.specs.Levels.{bounds_before, IsLevel, AreLevels, IsHalved, levels_of, level_at}
+use Rattle.hull_tree.proofs.Gaps.{same_bounds}
+
+both-assoc : (p q r : Bounds) → both p (both q r) ≡ both (both p q) r
+both-assoc p q r = same_bounds (both p (both q r)) (both (both p q) r) (omega (arith, ints, clamps)) (omega (arith, ints, clamps)) (omega (arith, ints, clamps)) (omega (arith, ints, clamps))
+
+-- two ranges of which the second begins right after the first
+pub bounds-join : (xs : List Span) (a n m : ℕ) → both (bounds_over xs a n) (bounds_over xs (a + suc n) m) ≡ bounds_over xs a (suc n + m)
+bounds-join xs a n zero = let e : suc n + 0 ≡ suc n = omega arith in rw e
+bounds-join xs a n (suc m) =
+    let e : suc n + suc m ≡ suc (suc n + m) = omega arith in
+    let f : a + suc n + suc m ≡ a + suc (suc n + m) = omega arith in
+    let last : Bounds = bounds_of (cell_at xs (a + suc (suc n + m))) in
+    rw (e, f) (both-assoc (bounds_over xs a n) (bounds_over xs (a + suc n) m) last ∙ ap (λ (p : Bounds). both p last) (bounds-join xs a n m))
+
+-- a range that is cut before its tick m
+pub over-join : (xs : List Span) (a m last : ℕ) → a < m → m ≤ last → both (bounds_over xs a (m - 1 - a)) (bounds_over xs m (last - m)) ≡ bounds_over xs a (last - a)
+over-join xs a m last h k =
+    let e : a + suc (m - 1 - a) ≡ m = omega arith in
+    let f : suc (m - 1 - a) + (last - m) ≡ last - a = omega arith in
+    let j : both (bounds_over xs a (m - 1 - a)) (bounds_over xs m (last - m)) ≡ bounds_over xs a (suc (m - 1 - a) + (last - m)) =
+    subst (λ (x : ℕ). both (bounds_over xs a (m - 1 - a)) (bounds_over xs x (last - m)) ≡ bounds_over xs a (suc (m - 1 - a) + (last - m))) e (bounds-join xs a (m - 1 - a) (last - m)) in
+    j ∙ ap (bounds_over xs a) f
+
+before-join : (xs : List Span) (a m end : ℕ) → a < m → m < end → both (bounds_before xs a m) (bounds_before xs m end) ≡ bounds_before xs a end
+before-join xs a m end h k = over-join xs a m (end - 1) h (omega arith)
+
+-- each tick by itself
+pub level-leaves : (xs : List Span) → IsLevel xs 1 (map bounds_of xs)
+level-leaves xs = record {
+  few = λ i h. omega (arith, h, len);
+  all = λ i h. omega (arith, h, len);
+  hulls = λ i d h. get_or-map bounds_of xs i (point (pos 0)) d (omega (arith, h)) ∙ one i (omega (arith, h));
+}
+  where
+    len : length (map bounds_of xs) ≡ length xs
+    len = length-map xs bounds_of
+
+    one : (i : ℕ) → i < length xs → bounds_of (cell_at xs i) ≡ bounds_before xs (i * 1) (min (i * 1 + 1) (length xs))
+    one i h =
+        let e : i * 1 ≡ i = omega arith in
+        let f : min (i + 1) (length xs) - 1 - i ≡ 0 = omega arith in
+        rw (e, f)
+
+same-before : (xs : List Span) (a b c d : ℕ) → a ≡ c → b ≡ d → bounds_before xs a b ≡ bounds_before xs c d
+same-before xs a b c d e f = cc
+
+split : (x y : ℕ) → x < y → (x + 1 < y) ⊎ (x + 1 ≡ y)
+split x y h = grind arith
+
+-- two neighbours make a block of twice the side
+pub level-halved : (xs : List Span) (side : ℕ) (row above : List Bounds) → 1 ≤ side → IsLevel xs side row → IsHalved row above → IsLevel xs (2 * side) above
+level-halved xs side row above some level half = record {
+  few = λ i h. let low : (2 * i) * side < length xs = level.few (2 * i) (omega (arith, h, half.len)) in omega (arith, low);
+  all = λ i h. let low : 2 * i < length row = level.all (2 * i) (omega (arith, h)) in omega (arith, low, half.len);
+  hulls = λ i d h. at i d h (split (2 * i) (length row) (level.all (2 * i) (omega (arith, h))));
+}
+  where
+    at : (i : ℕ) (d : Bounds) → i * (2 * side) < length xs → (2 * i + 1 < length row) ⊎ (2 * i + 1 ≡ length row)
+        → get_or above i d ≡ bounds_before xs (i * (2 * side)) (min (i * (2 * side) + 2 * side) (length xs))
+    at i d h (inl more) =
+        let two : (2 * i + 1) * side < length xs = level.few (2 * i + 1) more in
+        let start : (2 * i) * side ≡ i * (2 * side) = omega arith in
+        let middle : min ((2 * i) * side + side) (length xs) ≡ (2 * i + 1) * side = omega (arith, two) in
+        let end : min ((2 * i + 1) * side + side) (length xs) ≡ min (i * (2 * side) + 2 * side) (length xs) = omega arith in
+        let left : get_or row (2 * i) d ≡ bounds_before xs (i * (2 * side)) ((2 * i + 1) * side) = level.hulls (2 * i) d (omega (arith, h)) ∙ same-before xs ((2 * i) * side) (min ((2 * i) * side + side) (length xs)) (i * (2 * side)) ((2 * i + 1) * side) start middle in
+        let right : get_or row (2 * i + 1) d ≡ bounds_before xs ((2 * i + 1) * side) (min (i * (2 * side) + 2 * side) (length xs)) = level.hulls (2 * i + 1) d two ∙ ap (bounds_before xs ((2 * i + 1) * side)) end in
+        half.joined i d more ∙ ap (λ (p : Bounds). both p (get_or row (2 * i + 1) d)) left ∙ ap (both (bounds_before xs (i * (2 * side)) ((2 * i + 1) * side))) right
+        ∙ before-join xs (i * (2 * side)) ((2 * i + 1) * side) (min (i * (2 * side) + 2 * side) (length xs)) (omega (arith, some)) (omega (arith, two, some))
+    at i d h (inr same) =
+        let start : (2 * i) * side ≡ i * (2 * side) = omega arith in
+        let past : length xs ≤ (2 * i + 1) * side = beyond (2 * i + 1) (omega (arith, same)) in
+        let end : min ((2 * i) * side + side) (length xs) ≡ min (i * (2 * side) + 2 * side) (length xs) = omega (arith, past) in
+        half.alone i d same ∙ level.hulls (2 * i) d (omega (arith, h)) ∙ same-before xs ((2 * i) * side) (min ((2 * i) * side + side) (length xs)) (i * (2 * side)) (min (i * (2 * side) + 2 * side) (length xs)) start end
+      where
+        beyond : (j : ℕ) → length row ≤ j → length xs ≤ j * side
+        beyond j k = decide (length xs) (j * side) (λ l. omega (arith, level.all j l))
+          where
+            decide : (x y : ℕ) → (y < x → ⊥) → x ≤ y
+            decide x y none = elim (either x y) [ inl l ↦ l | inr l ↦ absurd (none l) ]
+              where
+                either : (x y : ℕ) → (x ≤ y) ⊎ (y < x)
+                either x y = grind arith
+
+levels-push : (levels : List (Vec Bounds Global)) (above : Vec Bounds Global) → levels_of (levels ++ above ∷ []) ≡ levels_of levels ++ above.items ∷ []
+levels-push levels above = map-append vec_items levels (above ∷ [])
+
+pub levels-length : (levels : List (Vec Bounds Global)) → length (levels_of levels) ≡ length levels
+levels-length levels = length-map levels vec_items
+
+-- a level more
+pub levels-more : (xs : List Span) (levels : List (Vec Bounds Global)) (above below : Vec Bounds Global) → AreLevels xs (levels_of levels)
+    → below ≡ get_or levels (length levels - 1) below → IsHalved below.items above.items → AreLevels xs (levels_of (levels ++ above ∷ []))
+levels-more xs levels above below has is half = rw (levels-push levels above) (record {
+  some = omega (arith, len);
+  each = λ k h. at k (which k h);
+})
+  where
+    rows : List (List Bounds)
+    rows = levels_of levels
+
+    len : length (rows ++ above.items ∷ []) ≡ length rows + 1
+    len = length-append rows (above.items ∷ [])
+
+    which : (k : ℕ) → k < length (rows ++ above.items ∷ []) → (k < length rows) ⊎ (k ≡ length rows)
+    which k h = pick k (length rows) (omega (arith, h, len))
+      where
+        pick : (k n : ℕ) → k < n + 1 → (k < n) ⊎ (k ≡ n)
+        pick k n h = grind arith
+
+    last : level_at rows (length rows - 1) ≡ below.items
+    last =
+        let e : length rows ≡ length levels = levels-length levels in
+        ap (λ (n : ℕ). level_at rows (n - 1)) e ∙ get_or-map vec_items levels (length levels - 1) below [] (omega (arith, has.some, e)) ∙ ap vec_items (sym is)
+
+    made : IsLevel xs (2 ^ length rows) above.items
+    made =
+        let k : ℕ = length rows - 1 in
+        let s : length rows ≡ suc k = omega (arith, has.some) in
+        let low : IsLevel xs (2 ^ k) below.items = subst (IsLevel xs (2 ^ k)) last (has.each k (omega (arith, has.some))) in
+        let up : IsLevel xs (2 * 2 ^ k) above.items = level-halved xs (2 ^ k) below.items above.items (pow_pos k) low half in
+        subst (λ (x : ℕ). IsLevel xs x above.items) (let e : 2 * 2 ^ k ≡ 2 ^ suc k = omega (arith, pow-suc 2 k) in e ∙ ap (λ (n : ℕ). 2 ^ n) (sym s)) up
+
+    at : (k : ℕ) → (k < length rows) ⊎ (k ≡ length rows) → IsLevel xs (2 ^ k) (level_at (rows ++ above.items ∷ []) k)
+    at k (inl h) = subst (IsLevel xs (2 ^ k)) (sym (get_or-append rows (above.items ∷ []) [] k h)) (has.each k h)
+    at k (inr e) =
+        subst (λ (n : ℕ). IsLevel xs (2 ^ n) (level_at (rows ++ above.items ∷ []) n)) (sym e)
+        (subst (IsLevel xs (2 ^ length rows)) (sym (get_or-append_seam rows above.items [] [])) made)
+
+-- half a side, and the two halves of a block
+pub half-pow : (side level : ℕ) → side ≡ 2 ^ level → level ≢ 0 → (side / 2 ≡ 2 ^ (level - 1)) × (side / 2 + side / 2 ≡ side)
+half-pow side zero s d = absurd (d refl)
+half-pow side (suc m) s d =
+    let k : suc m - 1 ≡ m = omega arith in
+    let q : side / 2 ≡ 2 ^ m = omega (arith, pow-suc 2 m) in
+    (rw k q, omega (arith, pow-suc 2 m))
+
+pub halves : (block side half : ℕ) → half + half ≡ side → ((2 * block) * half ≡ block * side) × ((2 * block + 1) * half ≡ block * side + half)
+halves block side half e = (rw (← e) (omega arith), rw (← e) (omega arith))
+
+-- a range that is not the whole of its block stands above the lowest level
+pub above-lowest : (n block side level first last end : ℕ) → side ≡ 2 ^ level → block * side ≤ first → first ≤ last → last < block * side + side → last < n → end ≡ min (block * side + side) n
+    → (first ≡ block * side → last + 1 ≡ end → ⊥) → level ≢ 0
+above-lowest n block side zero first last end s h k l m e none = absurd (none (omega (arith, s)) (omega (arith, s)))
+above-lowest n block side (suc level) first last end s h k l m e none = λ f. absurd (omega (arith, f))
+
+-- the lowest level alone
+pub levels-first : (xs ticks : List Span) (levels : List (Vec Bounds Global)) (row : Vec Bounds Global) → levels ≡ row ∷ [] → row.items ≡ map bounds_of ticks → ticks ≡ xs → AreLevels xs (levels_of levels)
+levels-first xs ticks levels row e f g = rw e (record {
+  some = omega arith;
+  each = λ k h. at k h;
+})
+  where
+    made : IsLevel xs 1 row.items
+    made = subst (IsLevel xs 1) (sym (f ∙ ap (map bounds_of) g)) (level-leaves xs)
+
+    at : (k : ℕ) → k < 1 → IsLevel xs (2 ^ k) (level_at (row.items ∷ []) k)
+    at zero h = made
+    at (suc k) h = absurd (omega (arith, h))
+
+-- what holds of each tick and of one more
+pub each-more : (P : Span → Type 0) (xs : List Span) (x : Span) → ((k : ℕ) → P (cell_at xs k)) → P x → P (point (pos 0)) → (k : ℕ) → P (cell_at (xs ++ x ∷ []) k)
+each-more P [] x h p z zero = p
+each-more P [] x h p z (suc k) = z
+each-more P (y ∷ ys) x h p z zero = h 0
+each-more P (y ∷ ys) x h p z (suc k) = each-more P ys x (λ j. h (suc j)) p z k
+
+pub length-more : (levels more : List (Vec Bounds Global)) (row : Vec Bounds Global) → more ≡ levels ++ row ∷ [] → length more ≡ length levels + 1
+length-more levels more row e = ap (length {A = Vec Bounds Global}) e ∙ length-append levels (row ∷ [])
+
+pub side-more : (side k n : ℕ) → side ≡ 2 ^ (k - 1) → 1 ≤ k → n ≡ k + 1 → side * 2 ≡ 2 ^ (n - 1)
+side-more side zero n s some e = absurd (omega (arith, some))
+side-more side (suc k) n s some e =
+    let f : n - 1 ≡ suc k = omega (arith, e) in
+    let g : suc k - 1 ≡ k = omega arith in
+    let h : side ≡ 2 ^ k = s ∙ ap (λ (x : ℕ). 2 ^ x) g in
+    let p : 2 ^ suc k ≡ side * 2 = omega (arith, pow-suc 2 k, h) in
+    sym p ∙ ap (λ (x : ℕ). 2 ^ x) (sym f)

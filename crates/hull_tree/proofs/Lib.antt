@@ -1,0 +1,6 @@
+pub mod Gaps
+pub mod Judgements
+pub mod Blocks
+pub mod Nearness
+pub mod Tubes
+mod Examples

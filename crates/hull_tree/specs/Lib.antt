@@ -1,0 +1,4 @@
+pub mod Plane
+pub mod Judging
+pub mod Levels
+pub mod Revisits

@@ -1,0 +1,154 @@
+ghost use Rattle.std.specs.Prelude.{◌≡◌, ℕ, ◌+◌, ◌-◌, ◌*◌, ◌^◌, ◌<◌, ◌≤◌, IfOk, map, length, slice_index_or};
+ghost use Rattle.tube_spec.specs.Box.{AreBounded, IsBox};
+ghost use Rattle.hull_tree.specs.Judging.{bounds_of, both, bounds_over, IsSmall};
+ghost use Rattle.hull_tree.specs.Levels.{IsLevel, AreLevels, IsHalved, levels_of};
+ghost use Rattle.hull_tree.specs.declared.hulls.Bounds.{Bounds};
+
+use crate::hulls::{Bounds, hull_of, join};
+use int_interval::Interval;
+use std::alloc::{AllocError, Global};
+use std::marker::Model;
+
+/// A tree over the ticks of one signal. Level `k` has a hull for each block of `2 ^ k` ticks, and the last level one for all ticks.
+/// A contract sees the intervals of the ticks.
+#[derive(Drop)]
+pub struct RangeTree {
+    ticks: Vec<Interval>,
+    levels: Vec<Vec<Bounds>>,
+    side: usize,
+}
+
+impl Model for RangeTree {
+    ghost use Rattle.std.specs.Prelude.{List};
+    ghost use Rattle.tube_spec.specs.Span.{Span};
+    ghost use Rattle.hull_tree.specs.Levels.{IsTree, levels_of};
+
+    ghost Value = { List Span };
+
+    ghost view = { λ t. t.ticks.items };
+
+    ghost invariant = { λ t. IsTree t.ticks.items (levels_of t.levels.items) t.side };
+}
+
+impl RangeTree {
+    /// The tree over the intervals of ticks, of which there is one at least.
+    pub fn new(alloc: Global, ticks: Vec<Interval>) -> Result<RangeTree, AllocError>
+        requires some { 1 ≤ length ticks.items }
+        requires short { length ticks.items ≤ 100001 }
+        requires proper { IsBox ticks.items }
+        requires bounded { AreBounded ticks.items }
+        ensures { IfOk result (λ tree. tree ≡ ticks.items) }
+    {
+        let mut levels = Vec::new(alloc);
+        levels.push(leaves(alloc, &ticks)?)?;
+        let mut side = 1;
+        while side < ticks.len() {
+            let above = halved(alloc, &levels[levels.len() - 1])?;
+            levels.push(above)?;
+            side *= 2;
+        }
+        Ok(RangeTree {
+            ticks,
+            levels,
+            side,
+        })
+    }
+
+    /// How many ticks there are.
+    pub fn len(&self) -> usize
+        ensures len { result ≡ length self.now }
+        ensures some { 1 ≤ result }
+        ensures short { result ≤ 100001 }
+    {
+        self.ticks.len()
+    }
+
+    /// The bounds over the ticks from the first to the last.
+    pub fn over(&self, first: u32, last: u32) -> Bounds
+        requires order { first ≤ last }
+        requires within { last < length self.now }
+        ensures bounds { result ≡ bounds_over self.now first (last - first) }
+        ensures small { IsSmall result }
+    {
+        let top = self.levels.len() - 1;
+        over(
+            &self.ticks,
+            &self.levels,
+            top,
+            0,
+            self.side,
+            first as usize,
+            last as usize,
+        )
+    }
+}
+
+/// The bounds over a range within a block: the block's own where the range is all of it, and else those of its two halves.
+fn over(
+    ticks: &[Interval],
+    levels: &[Vec<Bounds>],
+    level: usize,
+    block: usize,
+    side: usize,
+    first: usize,
+    last: usize,
+) -> Bounds
+    requires levels { AreLevels ticks.now (levels_of levels.now) }
+    requires level { level < length levels.now }
+    requires side { side ≡ 2 ^ level }
+    requires low { side ≤ 200002 }
+    requires short { length ticks.now ≤ 100001 }
+    requires begins { block * side ≤ first }
+    requires order { first ≤ last }
+    requires ends { last < block * side + side }
+    requires within { last < length ticks.now }
+    ensures { result ≡ bounds_over ticks.now first (last - first) }
+{
+    let start = block * side;
+    let end = (start + side).min(ticks.len());
+    if first == start && last + 1 == end {
+        return levels[level][block];
+    }
+    let half = side / 2;
+    let middle = start + half;
+    if last < middle {
+        return over(ticks, levels, level - 1, 2 * block, half, first, last);
+    }
+    if first >= middle {
+        return over(ticks, levels, level - 1, 2 * block + 1, half, first, last);
+    }
+    let lower = over(ticks, levels, level - 1, 2 * block, half, first, middle - 1);
+    let upper = over(ticks, levels, level - 1, 2 * block + 1, half, middle, last);
+    join(lower, upper)
+}
+
+/// The lowest level: a hull for each tick.
+fn leaves(alloc: Global, ticks: &[Interval]) -> Result<Vec<Bounds>, AllocError>
+    ensures { IfOk result (λ v. v.items ≡ map bounds_of ticks.now) }
+{
+    ticks.iter().map(|tick| hull_of(*tick)).collect(alloc)
+}
+
+/// A level from the one below.
+fn halved(alloc: Global, row: &[Bounds]) -> Result<Vec<Bounds>, AllocError>
+    ensures { IfOk result (λ v. IsHalved row.now v.items) }
+{
+    let mut above = Vec::new(alloc);
+    for i in 0..row.len().div_ceil(2) {
+        above.push(pair_at(row, i))?;
+    }
+    Ok(above)
+}
+
+/// The hulls at `2 * i` and at `2 * i + 1` joined, or the first of them where it is the last of all.
+fn pair_at(row: &[Bounds], i: usize) -> Bounds
+    requires { 2 * i < length row.now }
+    ensures joined { (d : Bounds) → 2 * i + 1 < length row.now → result ≡ both (slice_index_or row.now (2 * i) d) (slice_index_or row.now (2 * i + 1) d) }
+    ensures alone { (d : Bounds) → 2 * i + 1 ≡ length row.now → result ≡ slice_index_or row.now (2 * i) d }
+{
+    let left = row[2 * i];
+    if 2 * i + 1 == row.len() {
+        return left;
+    }
+    join(left, row[2 * i + 1])
+}
