@@ -7,7 +7,6 @@ use Rattle.loop_degree.specs.Cells.{boundary, ends_of}
 use Rattle.loop_degree.specs.Labels.{label_at, degree_of}
 use Rattle.loop_degree.specs.Boundary.{turns_of}
 use Rattle.loop_degree.specs.Steps.{step_of, greatest_in, step_bound_of}
-use Rattle.loop_degree.specs.Degree.{magnitude}
 
 -- one cell, whose corners turn once; and the same the other way round
 one-cell : degree_of ((0, 10) ∷ []) (label_at ((0, 10, North) ∷ (0, 11, East) ∷ (1, 10, West) ∷ (1, 11, South) ∷ [])) ≡ pos 1
@@ -70,6 +69,3 @@ two-ticks = refl
 
 no-ticks : step_bound_of about 0 [] [] ≡ pos 1
 no-ticks = refl
-
-size : magnitude (negsuc 41) ≡ 42
-size = refl

@@ -8,18 +8,21 @@ use Rattle.tube_spec.specs.Span.{Span, Holds, meet_of, sub_of}
 use Rattle.loop_degree.specs.Pairs.{has}
 use Rattle.loop_degree.specs.Cells.{IsCornerOf}
 use Rattle.loop_degree.specs.Steps.{Tubes, step_of, greatest_in, greatest_sum, step_bound_of}
-use Rattle.loop_degree.specs.Degree.{change_of}
 use Rattle.loop_degree.proofs.Sharing.{same_pair}
 use Rattle.loop_degree.proofs.Alls.{all-weaker}
 use Rattle.loop_degree.proofs.Colours.{IsNear}
+
+-- what a signal changes by between the ticks of a pair
+abbrev pub change_of : (ℕ → ℕ → ℤ) → ℕ → ℕ × ℕ → ℤ
+change_of w x p = w x p.1 -ℤ w x p.0
 
 -- a signal stays in what it may be up to a tick
 abbrev pub LiesIn : Tubes → (ℕ → ℕ → ℤ) → ℕ → ℕ → Type 0
 LiesIn tube w ticks x = (k : ℕ) → k ≤ ticks → Holds (tube x k) (w x k)
 
 -- v is the rate of x up to a tick
-abbrev pub IsRateOf : (ℕ → ℕ → ℤ) → ℕ → ℕ → ℕ → Type 0
-IsRateOf w ticks x v = (k : ℕ) → k < ticks → w x (k + 1) ≡ w x k +ℤ w v k
+abbrev pub IsRateUpTo : (ℕ → ℕ → ℤ) → ℕ → ℕ → ℕ → Type 0
+IsRateUpTo w ticks x v = (k : ℕ) → k < ticks → w x (k + 1) ≡ w x k +ℤ w v k
 
 -- the bound is over each sum, and over where it begins
 fold-over : (g : ℕ → ℤ) (top : ℤ) (cs : List (ℕ × ℕ)) → top ≤ℤ fold (λ t c. int_max t (g c.0 +ℤ g c.1)) top cs
@@ -56,15 +59,15 @@ meets-hold tube k v s (r ∷ rs) h a =
     meets-hold tube k v (meet_of s (tube r k)) rs (record { low = omega (arith, ints, clamps, h.low, here.low); high = omega (arith, ints, clamps, h.high, here.high) }) a.1
 
 -- the change of one tick lies in the step
-pub step-holds : (tube : Tubes) (w : ℕ → ℕ → ℤ) (ticks x : ℕ) (rates : List ℕ) (k : ℕ) → LiesIn tube w ticks x → AllByRecursion (λ v. LiesIn tube w ticks v × IsRateOf w ticks x v) rates → k < ticks → Holds (step_of tube x rates k) (w x (k + 1) -ℤ w x k)
+pub step-holds : (tube : Tubes) (w : ℕ → ℕ → ℤ) (ticks x : ℕ) (rates : List ℕ) (k : ℕ) → LiesIn tube w ticks x → AllByRecursion (λ v. LiesIn tube w ticks v × IsRateUpTo w ticks x v) rates → k < ticks → Holds (step_of tube x rates k) (w x (k + 1) -ℤ w x k)
 step-holds tube w ticks x rates k h r l =
     let here = h k (omega arith) in
     let next = h (k + 1) (omega arith) in
     meets-hold tube k (w x (k + 1) -ℤ w x k) (sub_of (tube x (k + 1)) (tube x k)) rates
     (record { low = omega (arith, ints, here.low, here.high, next.low, next.high); high = omega (arith, ints, here.low, here.high, next.low, next.high) })
-    (all-weaker (λ v. LiesIn tube w ticks v × IsRateOf w ticks x v) (λ v. Holds (tube v k) (w x (k + 1) -ℤ w x k)) rates (λ v a. of-rate v a) r)
+    (all-weaker (λ v. LiesIn tube w ticks v × IsRateUpTo w ticks x v) (λ v. Holds (tube v k) (w x (k + 1) -ℤ w x k)) rates (λ v a. of-rate v a) r)
   where
-    of-rate : (v : ℕ) → LiesIn tube w ticks v × IsRateOf w ticks x v → Holds (tube v k) (w x (k + 1) -ℤ w x k)
+    of-rate : (v : ℕ) → LiesIn tube w ticks v × IsRateUpTo w ticks x v → Holds (tube v k) (w x (k + 1) -ℤ w x k)
     of-rate v a =
         let inside = a.0 k (omega arith) in
         let rate = a.1 k l in
@@ -88,7 +91,7 @@ near-ticks f s a i j u v p q r t =
     ]
 
 -- between two corners of a cell the difference changes by the step bound at most
-pub near-corners : (tube : Tubes) (w : ℕ → ℕ → ℤ) (ticks x : ℕ) (rates : List ℕ) (cells : List (ℕ × ℕ)) (c p q : ℕ × ℕ) → LiesIn tube w ticks x → AllByRecursion (λ v. LiesIn tube w ticks v × IsRateOf w ticks x v) rates → has cells c ≡ true → c.0 < ticks → c.1 < ticks → IsCornerOf c p → IsCornerOf c q → IsNear (step_bound_of tube x rates cells) (change_of w x p) (change_of w x q)
+pub near-corners : (tube : Tubes) (w : ℕ → ℕ → ℤ) (ticks x : ℕ) (rates : List ℕ) (cells : List (ℕ × ℕ)) (c p q : ℕ × ℕ) → LiesIn tube w ticks x → AllByRecursion (λ v. LiesIn tube w ticks v × IsRateUpTo w ticks x v) rates → has cells c ≡ true → c.0 < ticks → c.1 < ticks → IsCornerOf c p → IsCornerOf c q → IsNear (step_bound_of tube x rates cells) (change_of w x p) (change_of w x q)
 near-corners tube w ticks x rates cells c p q h r k l m i j =
     let g = λ (t : ℕ). greatest_in (step_of tube x rates t) in
     let first = greatest-over (step_of tube x rates c.0) _ (step-holds tube w ticks x rates c.0 h r l) in
