@@ -44,7 +44,6 @@ one-pair = refl
 abbrev around : ℤ → ℤ → Span
 around lo hi = record { lo = lo; hi = hi }
 
-
 least-change : least_abs (change (around (negsuc 5) (pos 6) ∷ around (pos 9) (pos 21) ∷ []) 0 1) ≡ 3
 least-change = refl
 

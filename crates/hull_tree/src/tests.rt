@@ -69,7 +69,11 @@ fn boxes_are_judged(rt: HostRuntime) -> Result<(), Fail> {
         let tree = HullTree::new(rt.alloc(), &store, &query)?;
         assert_eq!(rt; tree.ticks(), 2);
         assert!(&rt; a.0 <= a.1 && a.1 <= 2 && b.0 <= b.1 && b.1 <= 2);
-        assert_eq!(rt; judged::<Brand>(Blank::new(1), &tree, a, b), judgement, "{norm:?} {gap}");
+        assert_eq!(rt;
+            judged::<Brand>(Blank::new(1), &tree, a, b),
+            judgement,
+            "{norm:?} {gap}"
+        );
     }
     Ok(())
 }

@@ -20,9 +20,9 @@ loop-side-preserved c =
     let some : 1 ≤ length c.loop-side.levels.items = omega (arith, c.loop-side.invariant.levels.some, levels-length c.loop-side.levels.items) in
     record {
       levels = subst (λ (l : List (Vec Bounds Global)). AreLevels c.args.ticks.items (levels_of l)) (sym all)
-      (levels-more c.args.ticks.items c.loop-side.levels.items c.in_ok-above.above c.index.result.now c.loop-side.invariant.levels
-      (c.index.ensures ∙ ap (λ (n : ℕ). get_or c.loop-side.levels.items (n - 1) c.index.result.now) len)
-      (subst (λ (row : List Bounds). IsHalved row c.in_ok-above.above.items) c.deref-in-loop-side.ensures.value c.in_ok-above.ensures));
+          (levels-more c.args.ticks.items c.loop-side.levels.items c.in_ok-above.above c.index.result.now c.loop-side.invariant.levels
+          (c.index.ensures ∙ ap (λ (n : ℕ). get_or c.loop-side.levels.items (n - 1) c.index.result.now) len)
+          (subst (λ (row : List Bounds). IsHalved row c.in_ok-above.above.items) c.deref-in-loop-side.ensures.value c.in_ok-above.ensures));
       side = side-more c.loop-side.side (length c.loop-side.levels.items) (length c.push-in-loop-side.new.self.items) c.loop-side.invariant.side some (length-more c.loop-side.levels.items c.push-in-loop-side.new.self.items c.in_ok-above.above all);
       low = omega (arith, c.loop-side-test.true);
     }

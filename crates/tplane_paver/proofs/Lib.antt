@@ -1,0 +1,8 @@
+pub mod RowLaws
+pub mod RunLaws
+pub mod Putting
+pub mod Advancing
+pub mod Squares
+pub mod Filling
+pub mod Lists
+pub mod Roots
