@@ -25,7 +25,7 @@ mod laws;
 #[cfg(test)]
 mod tests;
 
-pub use cells::boundary_corners;
+pub use cells::{boundary_corners, is_rising};
 pub use check::check_cells;
 pub use labels::Label;
 pub use laws::degree_law;

@@ -7,6 +7,8 @@
 mod bounds;
 mod labels;
 mod laws;
+#[cfg(test)]
+mod tests;
 
 pub use bounds::step_bound;
 pub use labels::{label, labels_of};
