@@ -1,0 +1,16 @@
+pub mod Sums
+pub mod Sharing
+pub mod Alls
+pub mod Rising
+pub mod Searching
+pub mod Labelling
+pub mod Before
+pub mod Turns
+pub mod Corners
+pub mod Cancelling
+pub mod Colours
+pub mod Edges
+pub mod Passing
+pub mod Moves
+pub mod Law
+pub mod Examples

@@ -1,0 +1,13 @@
+use Rattle.std.proofs.Common.{◌≡◌, take, map, IfSome}
+use Rattle.tube_spec.specs.Span.{IsBounded}
+use Rattle.tube_spec.specs.Hull.{proper}
+use Rattle.tube_spec.specs.Tick.{at_tick}
+use Rattle.loop_degree.specs.Steps.{step_of}
+use Rattle.loop_prover.proofs.bounds.greatest_step.Given as goal
+
+-- the step met with the rates so far
+abbrev pub invariant-loop-rate : goal.invariant-loop-rate
+invariant-loop-rate l = record {
+  value : IfSome l.store.box (λ xs. l.step ≡ proper (step_of (at_tick l.store.shape xs) l.fn.x.0 (map (λ r. r.0) (take l.rate-index l.rates)) l.tick));
+  bounded : IfSome l.step (IsBounded 1000000000);
+}
