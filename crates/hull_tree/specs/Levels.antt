@@ -1,6 +1,6 @@
 -- The levels of a tree over ticks: at each level the hulls of blocks of one side, which is twice that of the level below.
 use Rattle.std.specs.Prelude.{◌≡◌, ℕ, ◌+◌, ◌-◌, ◌*◌, ◌/◌, ◌^◌, ◌<◌, ◌≤◌, List, [], Vec, map, min, length, slice_index_or, vec_items}
-use Rattle.std.proofs.Common.{Global}
+use Rattle.std.specs.declared.alloc.Global.{Global}
 use Rattle.tube_spec.specs.Span.{Span}
 use Rattle.tube_spec.specs.Box.{IsBox, AreBounded}
 use Rattle.hull_tree.specs.declared.hulls.Bounds.{Bounds}

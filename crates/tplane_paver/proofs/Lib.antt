@@ -6,3 +6,10 @@ pub mod Squares
 pub mod Filling
 pub mod Lists
 pub mod Roots
+pub mod Ways
+pub mod Trees
+pub mod Sweeps
+pub mod Gathering
+pub mod Reaching
+pub mod Spans
+mod Examples

@@ -1,6 +1,6 @@
 -- Rows of runs that grow while squares are judged.
 use Rattle.std.specs.Prelude.{◌≡◌, ℕ, zero, suc, ◌+◌, ◌<◌, ◌≤◌, Bool, false, cond, ◌≢◌, List, [], ◌∷◌, Vec, map, vec_items, length, reverse, nat_eq, sum_by, Result, Ok, Err}
-use Rattle.std.proofs.Common.{Global}
+use Rattle.std.specs.declared.alloc.Global.{Global}
 use Rattle.tplane_paver.specs.declared.rows.Stretch.{Stretch}
 use Rattle.tplane_paver.specs.Rows.{row_at}
 use Rattle.tplane_paver.specs.declared.paving.PaveFault.{PaveFault}

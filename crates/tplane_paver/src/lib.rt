@@ -14,9 +14,15 @@
 //! loops are looked for so by Aubry, Desmare, Jaulin, "Loop detection of mobile robots using interval analysis" (2013).
 #![tactic(auto)]
 
+mod classes;
+mod forest;
 mod paving;
 mod rows;
 mod runs;
+mod sweep;
+#[cfg(test)]
+mod tests;
 
+pub use classes::{Component, components};
 pub use paving::{PaveFault, pave};
 pub use runs::{Run, Runs};

@@ -1,0 +1,14 @@
+use Rattle.std.proofs.Common.{◌<◌, length}
+use Rattle.tplane_paver.specs.Forests.{KeepsTrees, Joined, IsParent}
+use Rattle.tplane_paver.proofs.forest.find.Given as goal
+
+-- the trees are the same, and the number is in the tree of the one that was asked for
+abbrev pub invariant-loop-parents : goal.invariant-loop-parents
+invariant-loop-parents l = record {
+  keeps : KeepsTrees l.fn.parents l.parents;
+  within : l.at < length l.parents;
+  joined : Joined (IsParent l.parents) l.fn.from l.at;
+}
+
+abbrev pub decreases-loop-parents : goal.decreases-loop-parents
+decreases-loop-parents l = l.at
