@@ -3,7 +3,7 @@ use Rattle.std.proofs.Common.{◌≡◌, ℕ, ◌+◌, ◌-◌, ◌<◌, ◌≤�
 use Rattle.std.proofs.lemmas.List.{get_or_default}
 use Rattle.tplane_paver.proofs.Sweeps.{below-or-same}
 use Rattle.tplane_paver.specs.declared.runs.Run.{Run}
-use Rattle.tplane_paver.specs.Runs.{InRun, InRuns, run_at, AreInOrder}
+use Rattle.tplane_paver.specs.Runs.{run_at, AreInOrder}
 use Rattle.tplane_paver.specs.Components.{SpansA, SpansB}
 
 -- rows rise

@@ -1,9 +1,9 @@
 -- Which runs touch, and a forest of those that hang together.
-use Rattle.std.proofs.Common.{◌≡◌, ◌≢◌, ℕ, ◌+◌, ◌<◌, ◌≤◌, ◌⊎◌, inl, inr, List, ◌++◌, take, drop, length, slice_index, arith, sym, ap, subst, ◌∙◌}
+use Rattle.std.proofs.Common.{◌≡◌, ℕ, ◌+◌, ◌<◌, ◌≤◌, ◌⊎◌, inl, inr, List, ◌++◌, take, drop, length, slice_index, arith, sym, ap, subst, ◌∙◌}
 use Rattle.std.proofs.Math.Seq.{take-append_seam}
 use Rattle.tplane_paver.specs.declared.runs.Run.{Run}
 use Rattle.tplane_paver.specs.Runs.{run_at, IsBefore, AreInOrder}
-use Rattle.tplane_paver.specs.Forests.{Touch, IsClearOf, Touching, Joined, Maps, IsParent, IsParentOr, GoDown, JoinsTrees, IsSweptTo, IsSwept}
+use Rattle.tplane_paver.specs.Forests.{Touch, IsClearOf, Touching, Joined, Maps, IsParent, IsParentOr, JoinsTrees, IsSweptTo, IsSwept}
 use Rattle.tplane_paver.proofs.Ways.{joined-self, joined-step, joined-map}
 
 split : (x y : ℕ) → (x < y) ⊎ (y ≤ x)

@@ -1,5 +1,5 @@
 -- Forests whose parents change.
-use Rattle.std.proofs.Common.{◌≡◌, ◌≢◌, ℕ, ◌+◌, ◌<◌, ◌≤◌, ◌⊎◌, inl, inr, List, length, get_or, set, min, max, slice_index, arith, refl, sym, ap, subst, ◌∙◌, length-set}
+use Rattle.std.proofs.Common.{◌≡◌, ◌≢◌, ℕ, ◌<◌, ◌≤◌, ◌⊎◌, inl, inr, List, length, set, min, max, slice_index, arith, refl, sym, ap, subst, ◌∙◌, length-set}
 use Rattle.std.proofs.lemmas.List.{get_or-set_other, get_or-set_same}
 use Rattle.tplane_paver.specs.Forests.{Joined, Maps, IsParent, IsParentOr, GoDown, KeepsTrees, JoinsTrees}
 use Rattle.tplane_paver.proofs.Ways.{joined-then, joined-back, joined-self, joined-step, joined-map}

@@ -1,5 +1,5 @@
 -- Ways of a relation.
-use Rattle.std.proofs.Common.{◌≡◌, ℕ, zero, suc, ◌⊎◌, inl, inr, refl, sym, subst, ◌∙◌}
+use Rattle.std.proofs.Common.{◌≡◌, ℕ, zero, suc, ◌⊎◌, inl, inr, refl, sym, subst}
 use Rattle.tplane_paver.specs.Forests.{Way, Joined, Maps}
 
 way-then : (T : ℕ → ℕ → Type 0) (n m i j k : ℕ) → Way T n i j → Way T m j k → Joined T i k

@@ -5,7 +5,7 @@
 //! ```text
 //!   b |   ##        a run `(a, first, last)` holds the pairs (a, first) to (a, last)
 //!     |  ####  #
-//!     |  ##   ##    two components: here five runs of one, and three of the other
+//!     |  ##   ##    two components: here four runs of the one, and two of the other
 //!     +---------- a
 //! ```
 //!
