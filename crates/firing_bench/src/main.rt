@@ -84,19 +84,21 @@ fn asked(rt: &(impl Env + AllocGlobal)) -> Option<(String, u32, u32)> {
     Some((word, size, turns))
 }
 
-fn counted(rt: &(impl Env + AllocGlobal)) -> Option<u32> {
+// The net that the words ask for, and how often its contractor is fired.
+fn prepared(rt: &(impl Env + AllocGlobal)) -> Option<(Net<AnyCtc>, u32)> {
     let (word, size, turns) = asked(rt)?;
     let mut net = net_of(rt.alloc(), size)?;
     add(&mut net, word.as_str(), size)?;
-    Some(fire_often::<Brand>(&mut net, turns, Blank::new(1)))
+    Some((net, turns))
 }
 
 fn main(rt: HostRuntime) -> ExitCode {
-    match counted(&rt) {
-        Some(narrowed) => match println!(rt; "{narrowed}") {
-            Ok(()) => ExitCode::SUCCESS,
-            Err(_) => ExitCode::FAILURE,
-        },
-        None => ExitCode::FAILURE,
+    let Some((mut net, turns)) = prepared(&rt) else {
+        return ExitCode::FAILURE;
+    };
+    let narrowed = fire_often::<Brand>(&mut net, turns, Blank::new(1));
+    match println!(rt; "{narrowed}") {
+        Ok(()) => ExitCode::SUCCESS,
+        Err(_) => ExitCode::FAILURE,
     }
 }

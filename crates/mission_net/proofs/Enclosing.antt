@@ -45,8 +45,7 @@ says-in-range end s a before (Variable name range) signals vars h = (subst (λ (
 says-in-range end s a before (Deriv x rate) signals vars h = tt
 says-in-range end s a before (Bound x first last range) signals vars h = tt
 says-in-range end s a before (At x tick range) signals vars h =
-    let one : variables_in before + 1 ≡ length (s.vars ++ s.cells ∷ []) = omega (arith, vars, length-append s.vars (s.cells ∷ [])) in
-    (
+    let one : variables_in before + 1 ≡ length (s.vars ++ s.cells ∷ []) = omega (arith, vars, length-append s.vars (s.cells ∷ [])) in (
       subst (λ (n : ℕ). Holds (point (pos tick)) (number_of a n)) vars (at-point (pos tick) (number_of a (variables_in before)) h.0),
       (subst (λ (v : ℕ). Holds range (number_of a v)) one h.1, tt),
     )
