@@ -2,7 +2,8 @@
 //!
 //! - `still`: two signals that stay at 0, in slices of ten ticks;
 //! - `alternating`: a signal at 0 and 10 in turn, so that each possible pair is a run of its own;
-//! - `crossing`: a path of four straight legs, ten millimetres a tick and known to 60 either way, that crosses itself once;
+//! - `crossing`: a path of four straight legs, ten millimetres a tick and known to 60 either way, that crosses itself once and
+//!   ends where its last leg began;
 //! - `returning`: a path out and back the same way, known as well, so that it is near itself all along.
 //!
 //! It prints how many runs, sets and pairs are possible.
