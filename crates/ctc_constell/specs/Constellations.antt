@@ -9,7 +9,8 @@ use Rattle.tube_spec.specs.Projection.{Projection}
 use Rattle.tube_spec.specs.Assignment.{Assignment}
 use Rattle.int_interval.specs.Inverse.{meets}
 use Rattle.interval_box.specs.Parts.{part_of}
-use Rattle.ctc_constell.specs.Points.{cells_of, box_of, place_in}
+use Rattle.ctc_constell.specs.Points.{box_of, place_in}
+use Rattle.point_cells.specs.Points.{cells_of}
 
 -- two boxes share a point: they share a number in each coordinate
 abbrev pub boxes_meet : List Span → List Span → Bool

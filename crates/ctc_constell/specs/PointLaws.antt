@@ -1,23 +1,17 @@
--- Where the cells of points lie, that additions leave them there, and what boxes give them.
-use Rattle.std.proofs.Common.{◌≡◌, ℕ, zero, suc, ◌<◌, List, [], ◌∷◌, arith, refl, sym, ap, ap₂, subst, ◌∙◌, length, slice_index, slice_index_or, map, All, Contains, length-append}
-use Rattle.std.specs.List.{range_with_len, concat}
-use Rattle.std.proofs.Math.ListN.{get_or-append}
+-- Where the cells of marks lie, that additions leave them there, and what boxes give points.
+use Rattle.std.proofs.Common.{◌≡◌, ℕ, zero, suc, ◌<◌, List, [], ◌∷◌, arith, refl, ap₂, length, slice_index_or, map, All, Contains}
+use Rattle.std.specs.List.{concat}
 use Rattle.std.proofs.lemmas.List.Elements.{All-map, All-append, All-nil, Contains-append_left, Contains-append_right}
-use Rattle.std.proofs.lemmas.List.FromFn.{length-map-range_with_len, get_or-map-range_with_len}
 use Rattle.tube_spec.specs.Span.{Span, IsWithin, point}
 use Rattle.tube_spec.specs.Shape.{Shape, IsShape, Extends}
 use Rattle.tube_spec.specs.Box.{cell_at, IsBelow}
 use Rattle.tube_spec.specs.Assignment.{Assignment, IsHull}
 use Rattle.tube_spec.proofs.Spans.{IsWithin-refl}
 use Rattle.interval_box.specs.Parts.{part_of}
-use Rattle.ctc_constell.specs.Points.{cells_of, box_of, place_in}
+use Rattle.ctc_constell.specs.Points.{box_of, place_in}
+use Rattle.point_cells.specs.Points.{cells_of}
+use Rattle.point_cells.specs.PointLaws.{cells-in, cells-same}
 use Rattle.ctc_constell.specs.Constellations.{mark_at}
-
--- what holds of f 0, f 1 and so on below n holds of each in their list
-pub All-each : {X : Type 0} (P : X → Type 0) (f : ℕ → X) (n : ℕ) → ((i : ℕ) → i < n → P (f i)) → All P (map f (range_with_len 0 n))
-All-each P f n h = λ i d l.
-    let m : i < n = omega (arith, l, length-map-range_with_len f 0 n) in
-    subst P (sym (get_or-map-range_with_len f 0 n i i d m (omega arith))) (h i m)
 
 -- what holds of the elements of each list holds of those of all
 pub All-tail : {X : Type 0} (P : X → Type 0) (x : X) (xs : List X) → All P (x ∷ xs) → All P xs
@@ -34,26 +28,13 @@ contains-concat (m ∷ ms) zero c l h = Contains-append_left m (concat ms) c h
 contains-concat (m ∷ ms) (suc k) c l h = Contains-append_right m (concat ms) c (contains-concat ms k c (omega (arith, l)) h)
 
 module _ (s : Shape) (shape : IsShape s) where
-  pub cells-in : (vars : List ℕ) → All (λ v. v < length s.vars) vars → All (λ k. k < s.cells) (cells_of s vars)
-  cells-in vars named = All-map (λ (k : ℕ). k < s.cells) (slice_index s.vars) vars (λ i d l. shape.vars (slice_index_or vars i d) 0 (named i d l))
-
   pub marks-in : (marks : List (List ℕ)) → All (λ mark. All (λ v. v < length s.vars) mark) marks → All (λ k. k < s.cells) (concat (map (cells_of s) marks))
-  marks-in marks named = All-concat (λ k. k < s.cells) (map (cells_of s) marks) (All-map (All (λ k. k < s.cells)) (cells_of s) marks (λ i d l. cells-in (slice_index_or marks i d) (named i d l)))
+  marks-in marks named = All-concat (λ k. k < s.cells) (map (cells_of s) marks) (All-map (All (λ k. k < s.cells)) (cells_of s) marks (λ i d l. cells-in s shape (slice_index_or marks i d) (named i d l)))
 
 module _ (s t : Shape) (grows : Extends s t) where
-  pub vars-more : (vars : List ℕ) → All (λ v. v < length s.vars) vars → All (λ v. v < length t.vars) vars
-  vars-more vars named = λ i d l. omega (arith, named i d l, ap length grows.vars.1, length-append s.vars grows.vars.0)
-
-  -- a variable of the old shape has its cell where it was
-  pub cells-same : (vars : List ℕ) → All (λ v. v < length s.vars) vars → cells_of t vars ≡ cells_of s vars
-  cells-same [] named = refl
-  cells-same (v ∷ vars) named =
-      ap₂ ◌∷◌ (ap (λ (l : List ℕ). slice_index l v) grows.vars.1 ∙ get_or-append s.vars grows.vars.0 0 v (named 0 v (omega arith)))
-      (cells-same vars (All-tail (λ v. v < length s.vars) v vars named))
-
   pub marks-same : (marks : List (List ℕ)) → All (λ mark. All (λ v. v < length s.vars) mark) marks → map (cells_of t) marks ≡ map (cells_of s) marks
   marks-same [] named = refl
-  marks-same (m ∷ ms) named = ap₂ ◌∷◌ (cells-same m (named 0 [] (omega arith))) (marks-same ms (All-tail (λ mark. All (λ v. v < length s.vars) mark) m ms named))
+  marks-same (m ∷ ms) named = ap₂ ◌∷◌ (cells-same s t grows m (named 0 [] (omega arith))) (marks-same ms (All-tail (λ mark. All (λ v. v < length s.vars) mark) m ms named))
 
 -- a lesser box gives a point a lesser box
 pub part-mono : (xs ys : List Span) → IsBelow xs ys → (cells : List ℕ) (i : ℕ) → IsWithin (part_of (box_of xs cells) i) (part_of (box_of ys cells) i)

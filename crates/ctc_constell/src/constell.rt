@@ -1,6 +1,6 @@
 ghost use Rattle.std.specs.Prelude.{◌≡◌, ◌+◌, ◌*◌, ◌++◌, ◌<◌, ◌≤◌, IsSome, IfSome, All, length, map, slice_index};
 ghost use Rattle.std.specs.List.{concat};
-ghost use Rattle.ctc_constell.specs.Points.{numbers, cells_of};
+ghost use Rattle.point_cells.specs.Points.{numbers, cells_of};
 ghost use Rattle.ctc_constell.specs.Constellations.{ConstellFits, left_by_marks};
 
 use super::boxes::{box_of, join, left_by};
@@ -64,7 +64,7 @@ impl<const N: usize> ConstellCtc<N> {
 }
 
 impl<const N: usize> Formulas for ConstellCtc<N> {
-    ghost use Rattle.ctc_constell.specs.Points.{numbers};
+    ghost use Rattle.point_cells.specs.Points.{numbers};
     ghost use Rattle.ctc_constell.specs.Constellations.{constell_projections, ConstellFits};
     ghost use Rattle.ctc_constell.specs.ConstellLaws.{constell-monotone, constell-in_store};
 
@@ -95,7 +95,7 @@ impl<const N: usize> Formulas for ConstellCtc<N> {
 }
 
 impl<const N: usize> Contractor for ConstellCtc<N> {
-    ghost use Rattle.ctc_constell.specs.Points.{numbers};
+    ghost use Rattle.point_cells.specs.Points.{numbers};
     ghost use Rattle.ctc_constell.specs.Constellations.{constell_projections, constell_scope, ConstellFits};
     ghost use Rattle.ctc_constell.specs.ConstellLaws.{constell-monotone, constell-reads_only, constell-in_store, constell-fits_more, constell-same_projections, constell-same_scope};
 

@@ -7,7 +7,8 @@ use Rattle.tube_spec.specs.Hull.{hull_below, IsWithinOption}
 use Rattle.tube_spec.specs.Grid.{last_tick}
 use Rattle.tube_spec.proofs.Spans.{same_span}
 use Rattle.int_interval.proofs.Hulls.{same_hull}
-use Rattle.ctc_delay.specs.Delays.{lies_in, at_tick_from, shares, passes_over, is_possible}
+use Rattle.ctc_delay.specs.Delays.{lies_in, at_tick_from, passes_over, is_possible}
+use Rattle.int_interval.specs.Inverse.{meets}
 use Rattle.ctc_delay.specs.Ranges.{AreDelays, AreNoDelays, IsLeastOf, IsGreatestOf}
 use Rattle.ctc_delay.specs.Hulls.{and-left, and-right, and-both, shares-proper, proper-shares, passes-all, counted-hull-holds, counted-hull-least}
 use Rattle.ctc_delay.proofs.DelayHulls.{no-delay}
@@ -33,7 +34,7 @@ pub not-possible : (grid : List ℕ) (xs : List Span) (x y d k : ℕ) (before no
     → false ≡ is_possible grid xs x y d
 not-possible grid xs x y d k before now eb en apart low high =
     not-true (is_possible grid xs x y d) (λ h.
-    let here = passes-at (λ j. shares (at_tick_from grid xs x (j - d)) (at_tick_from grid xs y j)) d (last_tick grid - d) k h low (omega (arith, low, high)) in
+    let here = passes-at (λ j. meets (at_tick_from grid xs x (j - d)) (at_tick_from grid xs y j)) d (last_tick grid - d) k h low (omega (arith, low, high)) in
     apart (subst (λ (s : Span). IsProper (meet_of s now)) (sym eb) (subst (λ (s : Span). IsProper (meet_of (at_tick_from grid xs x (k - d)) s)) (sym en)
     (shares-proper (at_tick_from grid xs x (k - d)) (at_tick_from grid xs y k) here))))
 
@@ -73,9 +74,9 @@ module _ (tau : Span) (last : ℕ) (p : ℕ → Bool) where
         both None v w = v
         both (Some t) v w = record { low = v.low; high = w.high }
 
-pub possible-all : (grid : List ℕ) (xs : List Span) (x y d : ℕ) → d ≤ last_tick grid → ((k : ℕ) → d ≤ k → k < last_tick grid + 1 → shares (at_tick_from grid xs x (k - d)) (at_tick_from grid xs y k) ≡ true) → true ≡ is_possible grid xs x y d
+pub possible-all : (grid : List ℕ) (xs : List Span) (x y d : ℕ) → d ≤ last_tick grid → ((k : ℕ) → d ≤ k → k < last_tick grid + 1 → meets (at_tick_from grid xs x (k - d)) (at_tick_from grid xs y k) ≡ true) → true ≡ is_possible grid xs x y d
 possible-all grid xs x y d few h =
-    sym (passes-all (λ k. shares (at_tick_from grid xs x (k - d)) (at_tick_from grid xs y k)) d (last_tick grid - d) (λ k low high. h k low (omega (arith, high, few))))
+    sym (passes-all (λ k. meets (at_tick_from grid xs x (k - d)) (at_tick_from grid xs y k)) d (last_tick grid - d) (λ k low high. h k low (omega (arith, high, few))))
 
 -- the interval from the least to the greatest, as code makes it
 some-value : (o : Option Span) (s : Span) → IsSome o → IfSome o (λ r. r ≡ s) → o ≡ Some s
@@ -97,12 +98,12 @@ made-of_both tau last p lo hi are few least greatest first end made a b ea eb is
 
 -- the two signals share a number at one more tick
 pub shares-more : (grid : List ℕ) (xs : List Span) (x y d tick : ℕ) (before now : Span) → before ≡ at_tick_from grid xs x (tick - d) → now ≡ at_tick_from grid xs y tick → IsProper (meet_of before now)
-    → ((k : ℕ) → d ≤ k → k < tick → shares (at_tick_from grid xs x (k - d)) (at_tick_from grid xs y k) ≡ true)
-    → (k : ℕ) → d ≤ k → k < tick + 1 → shares (at_tick_from grid xs x (k - d)) (at_tick_from grid xs y k) ≡ true
+    → ((k : ℕ) → d ≤ k → k < tick → meets (at_tick_from grid xs x (k - d)) (at_tick_from grid xs y k) ≡ true)
+    → (k : ℕ) → d ≤ k → k < tick + 1 → meets (at_tick_from grid xs x (k - d)) (at_tick_from grid xs y k) ≡ true
 shares-more grid xs x y d tick before now eb en meet earlier k low high = elim (cases_lt k tick) [
   | inl l ↦ earlier k low l
   | inr l ↦
       let same : tick ≡ k = omega (arith, l, high) in
-      let here = subst (λ (s : Span). shares s now ≡ true) eb (proper-shares before now meet) in
-      subst (λ (j : ℕ). shares (at_tick_from grid xs x (j - d)) (at_tick_from grid xs y j) ≡ true) same (subst (λ (s : Span). shares (at_tick_from grid xs x (tick - d)) s ≡ true) en here)
+      let here = subst (λ (s : Span). meets s now ≡ true) eb (proper-shares before now meet) in
+      subst (λ (j : ℕ). meets (at_tick_from grid xs x (j - d)) (at_tick_from grid xs y j) ≡ true) same (subst (λ (s : Span). meets (at_tick_from grid xs x (tick - d)) s ≡ true) en here)
 ]

@@ -14,7 +14,8 @@ use Rattle.tube_spec.proofs.Spans.{IsWithinOption-trans}
 use Rattle.tube_spec.proofs.Assignments.{over-least-option}
 use Rattle.tube_spec.proofs.Ticks.{at_tick-hull}
 use Rattle.ctc_delay.specs.Places.{place_count, place_first, place_last}
-use Rattle.ctc_delay.specs.Delays.{at_tick_from, lies_in, delayed_hull, shares, is_possible, possible_hull, delay_to_at, delay_from_at, delay_to_projections, delay_from_projections, delay_shift_projections, DelayFits, IsDelay}
+use Rattle.ctc_delay.specs.Delays.{at_tick_from, lies_in, delayed_hull, is_possible, possible_hull, delay_to_at, delay_from_at, delay_to_projections, delay_from_projections, delay_shift_projections, DelayFits, IsDelay}
+use Rattle.int_interval.specs.Inverse.{meets}
 use Rattle.ctc_delay.specs.Hulls.{and-both, int_le-true, holds-lies_in, proper-shares, passes-all, counted-hull-holds, delayed-holds_at}
 use Rattle.ctc_delay.specs.DelayLaws.{All-each_place}
 use Rattle.ctc_delay.proofs.PlaceTicks.{gate-or-envelope, place-within}
@@ -29,7 +30,7 @@ under-guarded t true h f = under-narrowing t h (f refl)
 under-guarded t false h f = tt
 
 -- spans that hold one number share it
-both-share : (v : ℤ) (a b : Span) → IsWithin (point v) a → IsWithin (point v) b → shares a b ≡ true
+both-share : (v : ℤ) (a b : Span) → IsWithin (point v) a → IsWithin (point v) b → meets a b ≡ true
 both-share v a b p q = proper-shares a b (omega (arith, ints, clamps, p, q))
 
 module _ (s : Shape) (a : Assignment) (q : List Span) (grid : IsGrid s.grid) (hull : IsHull s a q) where
@@ -112,7 +113,7 @@ module _ (s : Shape) (a : Assignment) (q : List Span) (grid : IsGrid s.grid) (hu
         let v = slice_index s.vars tau in
         let held = possible_hull s.grid q fx fy (cell_at q v) in
         let possible : is_possible s.grid q fx fy says.0 ≡ true =
-        passes-all (λ k. shares (at_tick_from s.grid q fx (k - says.0)) (at_tick_from s.grid q fy k)) says.0 (last_tick s.grid - says.0) (λ k low high.
+        passes-all (λ k. meets (at_tick_from s.grid q fx (k - says.0)) (at_tick_from s.grid q fy k)) says.0 (last_tick s.grid - says.0) (λ k low high.
         let few : k ≤ last_tick s.grid = omega (arith, high, says.2) in
         let same = says.3 k low few in
         both-share (value_at a y k) (at_tick_from s.grid q fx (k - says.0)) (at_tick_from s.grid q fy k)

@@ -16,7 +16,8 @@ use Rattle.tube_spec.proofs.Spans.{IsWithin-refl, narrowing_of-mono}
 use Rattle.int_interval.proofs.Hulls.{same_hull}
 use Rattle.slice_gates.proofs.Places.{tick_place-lt}
 use Rattle.ctc_delay.specs.Places.{place_count, place_first, place_last, each_place, signal_cells}
-use Rattle.ctc_delay.specs.Delays.{at_tick_from, lies_in, delayed_hull, shares, is_possible, possible_hull, delay_to_at, delay_from_at, delay_shift_at, delay_to_projections, delay_from_projections, delay_shift_projections, delay_to_scope, delay_from_scope, delay_shift_scope, DelayFits}
+use Rattle.ctc_delay.specs.Delays.{at_tick_from, lies_in, delayed_hull, is_possible, possible_hull, delay_to_at, delay_from_at, delay_shift_at, delay_to_projections, delay_from_projections, delay_shift_projections, delay_to_scope, delay_from_scope, delay_shift_scope, DelayFits}
+use Rattle.int_interval.specs.Inverse.{meets}
 use Rattle.ctc_delay.specs.Hulls.{and-left, and-right, and-both, int_le-true, le-int_le, lies_in-mono, shares-mono, passes-mono, counted-hull-holds, counted-hull-least, delayed-mono, guarded-mono}
 
 -- ---- one for each place
@@ -56,7 +57,7 @@ delays-mono grid xs ys x y tau wider w hx hy =
     counted-hull-least (λ d. lies_in tau d && is_possible grid xs x y d) (λ d. point (pos d)) (last_tick grid + 1) (possible_hull grid ys x y wider) (λ d l e.
     let inside = lies_in-mono tau wider d w (and-left (lies_in tau d) (is_possible grid xs x y d) e) in
     let possible =
-    passes-mono (λ k. shares (at_tick_from grid xs x (k - d)) (at_tick_from grid xs y k)) (λ k. shares (at_tick_from grid ys x (k - d)) (at_tick_from grid ys y k)) d (last_tick grid - d)
+    passes-mono (λ k. meets (at_tick_from grid xs x (k - d)) (at_tick_from grid xs y k)) (λ k. meets (at_tick_from grid ys x (k - d)) (at_tick_from grid ys y k)) d (last_tick grid - d)
     (λ k m. shares-mono (at_tick_from grid xs x (k - d)) (at_tick_from grid xs y k) (at_tick_from grid ys x (k - d)) (at_tick_from grid ys y k) (hx (k - d)) (hy k) m)
     (and-right (lies_in tau d) (is_possible grid xs x y d) e) in
     counted-hull-holds (λ d. lies_in wider d && is_possible grid ys x y d) (λ d. point (pos d)) (last_tick grid + 1) d l (and-both (lies_in wider d) (is_possible grid ys x y d) inside possible))

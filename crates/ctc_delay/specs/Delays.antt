@@ -1,6 +1,6 @@
 -- The delay constraint: a signal y is at each tick what a signal x was tau ticks before, for one number tau of ticks.
 use Rattle.std.specs.Prelude.{◌≡◌, ℕ, zero, suc, ◌+◌, ◌-◌, ◌<◌, ◌≤◌, Bool, ◌&&◌, cond, List, [], ◌∷◌, ◌++◌, length, slice_index, Option, Some, None, pos, ◌+ℤ◌, int_le}
-use Rattle.tube_spec.specs.Span.{Span, point, meet_of}
+use Rattle.tube_spec.specs.Span.{Span, point}
 use Rattle.tube_spec.specs.Hull.{hull_below}
 use Rattle.tube_spec.specs.Narrowing.{Whole, narrowing_of}
 use Rattle.tube_spec.specs.Grid.{last_tick}
@@ -9,6 +9,7 @@ use Rattle.tube_spec.specs.Box.{cell_at}
 use Rattle.tube_spec.specs.Tick.{tick_place}
 use Rattle.tube_spec.specs.Projection.{Projection}
 use Rattle.tube_spec.specs.Assignment.{Assignment, value_at, number_of}
+use Rattle.int_interval.specs.Inverse.{holds, meets}
 use Rattle.ctc_delay.specs.Places.{place_first, place_last, each_place, signal_cells}
 
 -- Below, x and y stand for the first cells of the two signals, and tau for the cell of the variable.
@@ -19,7 +20,7 @@ at_tick_from grid xs first k = cell_at xs (first + tick_place grid k)
 
 -- a number of ticks lies in a span
 abbrev pub lies_in : Span → ℕ → Bool
-lies_in s d = int_le s.lo (pos d) && int_le (pos d) s.hi
+lies_in s d = holds s (pos d)
 
 -- The hull of f k d over the ticks k from a to b and over the delays d: the whole numbers that lie both in tau and in 0..last.
 abbrev pub delayed_hull : (ℕ → ℕ → Span) → Span → ℕ → ℕ → ℕ → Option Span
@@ -45,10 +46,6 @@ delay_from_at grid x y tau place = record {
       Whole;
 }
 
--- two spans share a number
-abbrev pub shares : Span → Span → Bool
-shares a b = int_le (meet_of a b).lo (meet_of a b).hi
-
 -- a test passes at a, at a + 1 and so on up to a + n
 abbrev pub passes_over : (ℕ → Bool) → ℕ → ℕ → Bool
 passes_over test a zero = test a
@@ -56,7 +53,7 @@ passes_over test a (suc n) = passes_over test a n && test (a + suc n)
 
 -- a delay is possible in a box: X(k - d) meets Y(k) for every tick k from d to the last
 abbrev pub is_possible : List ℕ → List Span → ℕ → ℕ → ℕ → Bool
-is_possible grid xs x y d = passes_over (λ k. shares (at_tick_from grid xs x (k - d)) (at_tick_from grid xs y k)) d (last_tick grid - d)
+is_possible grid xs x y d = passes_over (λ k. meets (at_tick_from grid xs x (k - d)) (at_tick_from grid xs y k)) d (last_tick grid - d)
 
 -- the hull of the delays in tau and 0..last that are possible
 abbrev pub possible_hull : List ℕ → List Span → ℕ → ℕ → Span → Option Span

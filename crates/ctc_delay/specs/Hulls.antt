@@ -5,7 +5,8 @@ use Rattle.tube_spec.specs.Span.{Span, IsProper, IsWithin, Holds, meet_of}
 use Rattle.tube_spec.specs.Hull.{hull_below, IsWithinOption}
 use Rattle.tube_spec.specs.Narrowing.{Narrowing, Whole, Nothing, Within, IsWithinNarrowing, narrowing_of}
 use Rattle.tube_spec.proofs.Spans.{IsWithinOption-refl, IsWithinOption-trans, hull-holds, hull-mono, meet-mono, narrowing_of-mono}
-use Rattle.ctc_delay.specs.Delays.{lies_in, delayed_hull, shares, passes_over}
+use Rattle.ctc_delay.specs.Delays.{lies_in, delayed_hull, passes_over}
+use Rattle.int_interval.specs.Inverse.{meets}
 
 -- tests
 pub and-left : (a b : Bool) → (a && b) ≡ true → a ≡ true
@@ -40,13 +41,13 @@ lies_in-mono s t d w h =
     let inside = lies_in-holds s d h in
     holds-lies_in t d (record { low = omega (arith, ints, w, inside); high = omega (arith, ints, w, inside) })
 
-pub shares-proper : (a b : Span) → shares a b ≡ true → IsProper (meet_of a b)
+pub shares-proper : (a b : Span) → meets a b ≡ true → IsProper (meet_of a b)
 shares-proper a b h = int_le-true (meet_of a b).lo (meet_of a b).hi h
 
-pub proper-shares : (a b : Span) → IsProper (meet_of a b) → shares a b ≡ true
+pub proper-shares : (a b : Span) → IsProper (meet_of a b) → meets a b ≡ true
 proper-shares a b h = le-int_le (meet_of a b).lo (meet_of a b).hi h
 
-pub shares-mono : (a b c d : Span) → IsWithin a c → IsWithin b d → shares a b ≡ true → shares c d ≡ true
+pub shares-mono : (a b c d : Span) → IsWithin a c → IsWithin b d → meets a b ≡ true → meets c d ≡ true
 shares-mono a b c d v w h =
     let less = meet-mono a b c d v w in
     let proper = shares-proper a b h in

@@ -1,7 +1,7 @@
 -- What the code reads of its variables, and the places of the projections.
-use Rattle.std.proofs.Common.{◌≡◌, ℕ, ◌+◌, ◌*◌, ◌-◌, ◌<◌, ◌≤◌, Option, Some, None, IfSome, List, ◌++◌, add-one, inl, inr, ◌⊎◌, ℤ, arith, sym, ap, subst, ◌∙◌, length, slice_index, slice_index_or, map, All, length-append}
+use Rattle.std.proofs.Common.{◌≡◌, ℕ, ◌+◌, ◌*◌, ◌-◌, ◌<◌, ◌≤◌, Option, Some, None, IfSome, List, ◌++◌, add-one, inl, inr, ◌⊎◌, ℤ, arith, sym, ap, ◌∙◌, length, slice_index, map, All, length-append}
 use Rattle.std.specs.List.{range_with_len}
-use Rattle.std.proofs.lemmas.List.{get_or-map, length-map, get_or_append_left, get_or-append_right, map-append}
+use Rattle.std.proofs.lemmas.List.{get_or-map, get_or_append_left, get_or-append_right, map-append}
 use Rattle.std.proofs.lemmas.List.FromFn.{length-map-range_with_len, get_or-map-range_with_len}
 use Rattle.std.proofs.lemmas.Int.{ints}
 use Rattle.std.proofs.lemmas.List.Elements.{All-append}
@@ -11,24 +11,9 @@ use Rattle.tube_spec.specs.Shape.{Shape}
 use Rattle.tube_spec.specs.Projection.{Projection}
 use Rattle.tube_store.specs.declared.VarId.{VarId}
 use Rattle.ctc_core.specs.Given.{projection_at, no_projection}
-use Rattle.ctc_dist.specs.Points.{numbers, cells_of}
+use Rattle.point_cells.specs.Points.{numbers, cells_of}
+use Rattle.point_cells.proofs.Numbers.{cells-length}
 use Rattle.ctc_dist.specs.Distances.{span_sum_below, dimension, forth, back, dist_projections_at}
-
-pub numbers-length : (vars : List VarId) → length (numbers vars) ≡ length vars
-numbers-length vars = length-map vars (λ (v : VarId). v.0)
-
-pub numbers-at : (vars : List VarId) (i : ℕ) (d : VarId) → i < length vars → slice_index (numbers vars) i ≡ (slice_index_or vars i d).0
-numbers-at vars i d l = get_or-map (λ (v : VarId). v.0) vars i d 0 l
-
-pub named-at : (n : ℕ) (vars : List VarId) → All (λ v. v < n) (numbers vars) → (i : ℕ) (d : VarId) → i < length vars → (slice_index_or vars i d).0 < n
-named-at n vars named i d l = subst (λ (v : ℕ). v < n) (numbers-at vars i d l) (named i 0 (omega (arith, l, numbers-length vars)))
-
-pub cells-length : (s : Shape) (vars : List VarId) → length (cells_of s (numbers vars)) ≡ length vars
-cells-length s vars = length-map (numbers vars) (slice_index s.vars) ∙ numbers-length vars
-
-pub cell-at : (s : Shape) (vars : List VarId) (i : ℕ) (d : VarId) → i < length vars → slice_index (cells_of s (numbers vars)) i ≡ slice_index s.vars (slice_index_or vars i d).0
-cell-at s vars i d l =
-    get_or-map (slice_index s.vars) (numbers vars) i 0 0 (omega (arith, l, numbers-length vars)) ∙ ap (slice_index s.vars) (numbers-at vars i d l)
 
 pub dimension-is : (s : Shape) (p b : List VarId) (n : ℕ) → length p ≡ n → length b ≡ n → dimension (cells_of s (numbers p)) (cells_of s (numbers b)) ≡ n
 dimension-is s p b n ep eb = omega (arith, ep, eb, cells-length s p, cells-length s b)

@@ -9,7 +9,7 @@ use Rattle.tube_spec.specs.Projection.{Projection}
 use Rattle.tube_spec.specs.Assignment.{Assignment, number_of}
 use Rattle.int_interval.specs.Image.{sqr_of}
 use Rattle.int_interval.specs.Inverse.{back_sqr_of}
-use Rattle.ctc_dist.specs.Points.{cells_of}
+use Rattle.point_cells.specs.Points.{cells_of}
 
 -- f 0 + f 1 and so on below n: of numbers, and of spans
 abbrev pub sum_below : (ℕ → ℤ) → ℕ → ℤ

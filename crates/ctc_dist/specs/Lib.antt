@@ -1,4 +1,3 @@
-pub mod Points
 pub mod Distances
 pub mod PointLaws
 pub mod DistLaws

@@ -2,7 +2,7 @@ ghost use Rattle.std.specs.Prelude.{◌≡◌, ◌+◌, ◌++◌, ◌<◌, ◌�
 ghost use Rattle.tube_spec.specs.Span.{IsBounded, IsWithin};
 ghost use Rattle.tube_spec.specs.Box.{cell_at};
 ghost use Rattle.ctc_core.specs.Given.{narrowing_given};
-ghost use Rattle.ctc_dist.specs.Points.{numbers, cells_of};
+ghost use Rattle.point_cells.specs.Points.{numbers, cells_of};
 ghost use Rattle.ctc_dist.specs.Distances.{DistFits, difference, square_but, other_squares, offset_of, squares_from, forth, back};
 
 use super::squares::{square, squares, zero};
@@ -140,7 +140,7 @@ impl<const N: usize> DistCtc<N> {
 }
 
 impl<const N: usize> Formulas for DistCtc<N> {
-    ghost use Rattle.ctc_dist.specs.Points.{numbers};
+    ghost use Rattle.point_cells.specs.Points.{numbers};
     ghost use Rattle.ctc_dist.specs.Distances.{dist_projections, DistFits};
     ghost use Rattle.ctc_dist.specs.DistLaws.{dist-monotone, dist-in_store};
 
@@ -173,7 +173,7 @@ impl<const N: usize> Formulas for DistCtc<N> {
 }
 
 impl<const N: usize> Contractor for DistCtc<N> {
-    ghost use Rattle.ctc_dist.specs.Points.{numbers};
+    ghost use Rattle.point_cells.specs.Points.{numbers};
     ghost use Rattle.ctc_dist.specs.Distances.{dist_projections, dist_scope, DistFits};
     ghost use Rattle.ctc_dist.specs.DistLaws.{dist-monotone, dist-reads_only, dist-in_store, dist-fits_more, dist-same_projections, dist-same_scope};
 

@@ -20,3 +20,4 @@ mod tests;
 
 pub use eval::EvalCtc;
 pub use laws::{declared_law, eval_law, near_law};
+pub use near::{Near, near_in};
