@@ -6,4 +6,5 @@ pub mod Decoding
 pub mod Frozen
 pub mod Counts
 pub mod Stable
+pub mod Nameless
 mod Examples

@@ -2,8 +2,8 @@
 
 ghost use Rattle.std.specs.Prelude.{◌≡◌, IfOk, option_map};
 ghost use Rattle.expr_text.specs.Builds.{seen, seen_two};
-ghost use Rattle.expr_tree.specs.Trees.{relation_of, tree_of};
-ghost use Rattle.expr_text.specs.Descent.{addends_at, bracket_at, closes, closes_two, ends, factors_at, pair_at, product_at, relation_at, right_at, second_at, sum_at, unary_at};
+ghost use Rattle.expr_tree.specs.Trees.{relation_of, tree_of, Square, Absolute, Least, Greatest};
+ghost use Rattle.expr_text.specs.Descent.{addends_at, bracket_at, closes, closes_two, ends, factors_at, pair_at, product_at, relation_at, right_at, second_at, sum_at, unary_at, with_binary, with_unary};
 
 use crate::token::Token;
 use expr_tree::{Rel, RelOp, Term};
@@ -201,6 +201,58 @@ fn second(
     }
 }
 
+// The square of what a bracket holds.
+fn squared<'a>(
+    alloc: Global,
+    found: Option<(Term, &'a [Token])>,
+) -> Result<Option<(Term, &'a [Token])>, NoMemory>
+    ensures { IfOk result (λ all. seen all ≡ with_unary Square (seen found.entry)) }
+{
+    match found {
+        Some((a, rest)) => Ok(Some((Term::Sqr(boxed(alloc, a)?), rest))),
+        None => Ok(None),
+    }
+}
+
+// The absolute value of what a bracket holds.
+fn absolute<'a>(
+    alloc: Global,
+    found: Option<(Term, &'a [Token])>,
+) -> Result<Option<(Term, &'a [Token])>, NoMemory>
+    ensures { IfOk result (λ all. seen all ≡ with_unary Absolute (seen found.entry)) }
+{
+    match found {
+        Some((a, rest)) => Ok(Some((Term::Abs(boxed(alloc, a)?), rest))),
+        None => Ok(None),
+    }
+}
+
+// The lesser of two terms.
+fn least<'a>(
+    alloc: Global,
+    found: Option<(Term, Term, &'a [Token])>,
+) -> Result<Option<(Term, &'a [Token])>, NoMemory>
+    ensures { IfOk result (λ all. seen all ≡ with_binary Least (seen_two found.entry)) }
+{
+    match found {
+        Some((a, b, rest)) => Ok(Some((Term::Min(boxed(alloc, a)?, boxed(alloc, b)?), rest))),
+        None => Ok(None),
+    }
+}
+
+// The greater of two terms.
+fn greatest<'a>(
+    alloc: Global,
+    found: Option<(Term, Term, &'a [Token])>,
+) -> Result<Option<(Term, &'a [Token])>, NoMemory>
+    ensures { IfOk result (λ all. seen all ≡ with_binary Greatest (seen_two found.entry)) }
+{
+    match found {
+        Some((a, b, rest)) => Ok(Some((Term::Max(boxed(alloc, a)?, boxed(alloc, b)?), rest))),
+        None => Ok(None),
+    }
+}
+
 #[cycle(build)]
 #[tactic(auto, unfolding(crate::specs::Descent::unary_at))]
 fn unary(
@@ -228,30 +280,10 @@ fn unary(
             Ok(None) => Ok(None),
             Err(error) => Err(error),
         },
-        [Token::Sqr, rest @ ..] => match bracket(alloc, calls - 1, rest) {
-            Ok(Some((a, rest))) => Ok(Some((Term::Sqr(boxed(alloc, a)?), rest))),
-            Ok(None) => Ok(None),
-            Err(error) => Err(error),
-        },
-        [Token::Abs, rest @ ..] => match bracket(alloc, calls - 1, rest) {
-            Ok(Some((a, rest))) => Ok(Some((Term::Abs(boxed(alloc, a)?), rest))),
-            Ok(None) => Ok(None),
-            Err(error) => Err(error),
-        },
-        [Token::Min, rest @ ..] => match pair(alloc, calls - 1, rest) {
-            Ok(Some((a, b, rest))) => {
-                Ok(Some((Term::Min(boxed(alloc, a)?, boxed(alloc, b)?), rest)))
-            }
-            Ok(None) => Ok(None),
-            Err(error) => Err(error),
-        },
-        [Token::Max, rest @ ..] => match pair(alloc, calls - 1, rest) {
-            Ok(Some((a, b, rest))) => {
-                Ok(Some((Term::Max(boxed(alloc, a)?, boxed(alloc, b)?), rest)))
-            }
-            Ok(None) => Ok(None),
-            Err(error) => Err(error),
-        },
+        [Token::Sqr, rest @ ..] => squared(alloc, bracket(alloc, calls - 1, rest)?),
+        [Token::Abs, rest @ ..] => absolute(alloc, bracket(alloc, calls - 1, rest)?),
+        [Token::Min, rest @ ..] => least(alloc, pair(alloc, calls - 1, rest)?),
+        [Token::Max, rest @ ..] => greatest(alloc, pair(alloc, calls - 1, rest)?),
         _ => Ok(None),
     }
 }

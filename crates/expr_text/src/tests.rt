@@ -156,6 +156,16 @@ fn signed(alloc: Global, signs: u32) -> Result<Vec<u8>, NoMemory> {
     Ok(text)
 }
 
+// One side in so many calls.
+fn called(alloc: Global, calls: u32) -> Result<Vec<u8>, NoMemory> {
+    let mut text = Vec::new(alloc);
+    repeat(&mut text, b"abs(", calls)?;
+    text.extend_from_slice(b"z")?;
+    repeat(&mut text, b")", calls)?;
+    text.extend_from_slice(b"=1")?;
+    Ok(text)
+}
+
 #[test]
 fn keeps_the_limits(rt: HostRuntime) -> Result<(), NoMemory> {
     let alloc = rt.alloc();
@@ -167,6 +177,8 @@ fn keeps_the_limits(rt: HostRuntime) -> Result<(), NoMemory> {
         (bracketed(alloc, 100_000)?, false),
         (signed(alloc, 30)?, true),
         (signed(alloc, 31)?, false),
+        (called(alloc, 30)?, true),
+        (called(alloc, 31)?, false),
     ];
     for (text, within) in cases.iter() {
         match read(alloc, text.as_slice()) {

@@ -1,6 +1,7 @@
 use Rattle.expr_hc4.specs.Uses.{uses-distinct}
+use Rattle.expr_hc4.proofs.Nameless.{no-projection, same-store}
 use Rattle.expr_hc4.proofs.Stable.{expr-stable, expr-within}
 use Rattle.expr_hc4.proofs.laws.expr_law.Goals as goal
 
 pub returns : goal.returns
-returns c = record { stable = expr-stable; within = expr-within; distinct = uses-distinct }
+returns c = record { stable = expr-stable; within = expr-within; distinct = uses-distinct; nameless = no-projection; untouched = same-store }

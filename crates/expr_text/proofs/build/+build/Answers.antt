@@ -33,3 +33,23 @@ pub pair-returns-in-Ok-Some : goal.pair-returns-in-Ok-Some
 unfolding sum_at
 pair-returns-in-Ok-Some t c =
     IfOk-weaker c.second.result _ _ (λ found e. grind (arith, common_steps, e)) c.second.ensures
+
+pub unary-returns-in_ok-bracket-in-Sqr : goal.unary-returns-in_ok-bracket-in-Sqr
+unfolding sum_at
+unary-returns-in_ok-bracket-in-Sqr t c =
+    IfOk-weaker c.squared.result _ _ (λ found e. grind (arith, common_steps, e, c.in_ok-bracket-in-Sqr.ensures)) c.squared.ensures
+
+pub unary-returns-in_ok-bracket-in-Abs : goal.unary-returns-in_ok-bracket-in-Abs
+unfolding sum_at
+unary-returns-in_ok-bracket-in-Abs t c =
+    IfOk-weaker c.absolute.result _ _ (λ found e. grind (arith, common_steps, e, c.in_ok-bracket-in-Abs.ensures)) c.absolute.ensures
+
+pub unary-returns-in_ok-pair-in-Min : goal.unary-returns-in_ok-pair-in-Min
+unfolding sum_at
+unary-returns-in_ok-pair-in-Min t c =
+    IfOk-weaker c.least.result _ _ (λ found e. grind (arith, common_steps, e, c.in_ok-pair-in-Min.ensures)) c.least.ensures
+
+pub unary-returns-in_ok-pair-in-Max : goal.unary-returns-in_ok-pair-in-Max
+unfolding sum_at
+unary-returns-in_ok-pair-in-Max t c =
+    IfOk-weaker c.greatest.result _ _ (λ found e. grind (arith, common_steps, e, c.in_ok-pair-in-Max.ensures)) c.greatest.ensures

@@ -1,0 +1,6 @@
+mod Tokenized
+mod Decided
+mod Read
+mod Spelled
+mod Printed
+mod Examples
