@@ -2,7 +2,7 @@
 use Rattle.std.proofs.Common.{◌≡◌, Some, refl}
 use Rattle.log_spelling.specs.Kinds.{kind_of, word_of}
 use Rattle.log_spelling.specs.declared.kind.Kind.{Kind}
-use Rattle.log_spelling.specs.declared.kind.Kind.TheVariants.{Mission, Signal, Variable, Deriv, Bound, At, Eval, Delay, Beacon, Range, Range3, Constell, Ping, Expr, Exprv, Revisit, Settle}
+use Rattle.log_spelling.specs.declared.kind.Kind.TheVariants.{Mission, Signal, Variable, Deriv, Bound, At, Eval, Delay, Beacon, Range, Range3, Constell, Ping, Expr, Exprv, Revisit, Settle, Cut}
 
 pub kind_read : (k : Kind) → kind_of (word_of k) ≡ Some k
 unfolding kind_of
@@ -23,3 +23,4 @@ kind_read Expr = refl
 kind_read Exprv = refl
 kind_read Revisit = refl
 kind_read Settle = refl
+kind_read Cut = refl

@@ -2,4 +2,5 @@ pub mod Ends
 pub mod Bounds
 pub mod Printed
 pub mod Solid
+pub mod Cutting
 pub mod KindWords

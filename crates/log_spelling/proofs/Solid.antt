@@ -14,7 +14,7 @@ use Rattle.log_spelling.proofs.Printed.{all_digits}
 abbrev pub is_solid : ℕ → Bool
 is_solid c = not (is_blank c)
 
-and_parts : (a b : Bool) → (a && b) ≡ true → (a ≡ true) × (b ≡ true)
+pub and_parts : (a b : Bool) → (a && b) ≡ true → (a ≡ true) × (b ≡ true)
 and_parts true b e = (refl, e)
 and_parts false b e = cc
 
@@ -36,7 +36,7 @@ pub trimmed_solid : (cs : List ℕ) → list_all is_solid cs ≡ true → trimme
 trimmed_solid cs h = ap without_back (front_solid cs h) ∙ back_solid cs h
 
 -- a test that is met by each element, where a stronger one is
-all_weaker : (p q : ℕ → Bool) (cs : List ℕ) → ((c : ℕ) → p c ≡ true → q c ≡ true) → list_all p cs ≡ true → list_all q cs ≡ true
+pub all_weaker : (p q : ℕ → Bool) (cs : List ℕ) → ((c : ℕ) → p c ≡ true → q c ≡ true) → list_all p cs ≡ true → list_all q cs ≡ true
 all_weaker p q [] w h = refl
 all_weaker p q (c ∷ cs) w h =
     let e = and_parts (p c) (list_all p cs) h in
@@ -45,7 +45,7 @@ all_weaker p q (c ∷ cs) w h =
 digit_solid : (c : ℕ) → is_digit c ≡ true → is_solid c ≡ true
 digit_solid c h = grind (arith, nat_tests)
 
-name_byte_solid : (c : ℕ) → is_name_byte c ≡ true → is_solid c ≡ true
+pub name_byte_solid : (c : ℕ) → is_name_byte c ≡ true → is_solid c ≡ true
 name_byte_solid c h = grind (arith, nat_tests)
 
 pub name_trimmed : (name : List ℕ) → is_name name ≡ true → trimmed name ≡ name

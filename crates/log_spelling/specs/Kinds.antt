@@ -1,7 +1,7 @@
 -- The words for the kinds of records.
 use Rattle.std.specs.Prelude.{ℕ, List, Option, Some, None, codes, bytes_eq, if◌then◌else◌}
 use Rattle.log_spelling.specs.declared.kind.Kind.{Kind}
-use Rattle.log_spelling.specs.declared.kind.Kind.TheVariants.{Mission, Signal, Variable, Deriv, Bound, At, Eval, Delay, Beacon, Range, Range3, Constell, Ping, Expr, Exprv, Revisit, Settle}
+use Rattle.log_spelling.specs.declared.kind.Kind.TheVariants.{Mission, Signal, Variable, Deriv, Bound, At, Eval, Delay, Beacon, Range, Range3, Constell, Ping, Expr, Exprv, Revisit, Settle, Cut}
 
 -- the kind that a word stands for, in lower case
 unfoldable pub kind_of : List ℕ → Option Kind
@@ -23,6 +23,7 @@ kind_of w =
     else if bytes_eq w (codes "exprv") then Some Exprv
     else if bytes_eq w (codes "revisit") then Some Revisit
     else if bytes_eq w (codes "settle") then Some Settle
+    else if bytes_eq w (codes "cut") then Some Cut
     else None
 
 -- the word for a kind
@@ -44,3 +45,4 @@ word_of Expr = codes "expr"
 word_of Exprv = codes "exprv"
 word_of Revisit = codes "revisit"
 word_of Settle = codes "settle"
+word_of Cut = codes "cut"

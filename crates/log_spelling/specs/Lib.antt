@@ -1,5 +1,6 @@
 pub mod Blanks
 pub mod Numbers
 pub mod Names
+pub mod References
 pub mod Kinds
 pub mod Laws

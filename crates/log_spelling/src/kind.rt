@@ -40,6 +40,8 @@ pub enum Kind {
     Revisit,
     /// `settle`: the end of a section.
     Settle,
+    /// `cut`: a boundary of slices.
+    Cut,
 }
 
 impl Kind {
@@ -99,6 +101,9 @@ impl Kind {
         if word == b"settle".as_slice() {
             return Some(Kind::Settle);
         }
+        if word == b"cut".as_slice() {
+            return Some(Kind::Cut);
+        }
         None
     }
 
@@ -124,6 +129,7 @@ impl Kind {
             Kind::Exprv => b"exprv",
             Kind::Revisit => b"revisit",
             Kind::Settle => b"settle",
+            Kind::Cut => b"cut",
         }
     }
 }

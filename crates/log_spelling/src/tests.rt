@@ -1,6 +1,6 @@
 //! Fields that are spelled right and wrong.
 
-use crate::{Kind, is_name, is_note, number_of, trimmed};
+use crate::{Kind, Part, bare_name, is_name, is_note, is_reference, number_of, part_of, trimmed};
 
 #[test]
 fn trims_blanks(rt: HostRuntime) {
@@ -65,13 +65,55 @@ fn knows_names(rt: HostRuntime) {
 }
 
 #[test]
+fn knows_references(rt: HostRuntime) {
+    let cases: [(&[u8], bool); 13] = [
+        (b"a", true),
+        (b"a.x", true),
+        (b"a.y", true),
+        (b"abcdefghijklmnopqrstuvwxyz012345.y", true),
+        (b"abcdefghijklmnopqrstuvwxyz0123456.y", false),
+        (b"a.z", false),
+        (b"a.X", false),
+        (b"a.x.y", false),
+        (b"a. x", false),
+        (b"a.", false),
+        (b".x", false),
+        (b"min.x", false),
+        (b"", false),
+    ];
+    for (text, want) in cases {
+        assert_eq!(rt; is_reference(text), want, "at {text:?}");
+    }
+}
+
+#[test]
+fn cuts_references(rt: HostRuntime) {
+    let cases: [(&[u8], &[u8], Part); 6] = [
+        (b"ab", b"ab", Part::Whole),
+        (b"ab.x", b"ab", Part::X),
+        (b"x.y", b"x", Part::Y),
+        (b"xy", b"xy", Part::Whole),
+        (b"a.z", b"a.z", Part::Whole),
+        (b".x", b"", Part::X),
+    ];
+    for (text, name, part) in cases {
+        assert_eq!(rt; bare_name(text), name, "at {text:?}");
+        assert_eq!(rt; part_of(text), part, "at {text:?}");
+    }
+    assert_eq!(rt; Part::Whole.text(), b"".as_slice());
+    assert_eq!(rt; Part::X.text(), b".x".as_slice());
+    assert_eq!(rt; Part::Y.text(), b".y".as_slice());
+}
+
+#[test]
 fn knows_kinds_and_notes(rt: HostRuntime) {
-    let cases: [(&[u8], Option<Kind>); 8] = [
+    let cases: [(&[u8], Option<Kind>); 9] = [
         (b"mission", Some(Kind::Mission)),
         (b"var", Some(Kind::Variable)),
         (b"range", Some(Kind::Range)),
         (b"range3", Some(Kind::Range3)),
         (b"exprv", Some(Kind::Exprv)),
+        (b"cut", Some(Kind::Cut)),
         (b"Signal", None),
         (b"sonar", None),
         (b"", None),
