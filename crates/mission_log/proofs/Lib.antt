@@ -1,8 +1,10 @@
-pub mod Touching
-pub mod Table
 pub mod Records
-pub mod Notes
 pub mod Keeping
+pub mod Each
+pub mod LeavesStand
 pub mod Heads
-pub mod Standing
 pub mod Reading
+pub mod Standing
+pub mod Right
+pub mod Adding
+pub mod Told

@@ -4,10 +4,10 @@ use Rattle.std.specs.Prelude.{not}
 use Rattle.std.specs.List.{list_all}
 use Rattle.csv_rows.specs.Records.{Record}
 use Rattle.mission_log.specs.Log.{after, is_note_record, log_by, log_from, nothing_yet, step}
-use Rattle.mission_log.specs.Names.{has_head}
-use Rattle.mission_log.specs.declared.fault.Cause.{Cause}
-use Rattle.mission_log.specs.declared.fault.Cause.TheVariants as cause
-use Rattle.mission_log.specs.declared.item.Mission.{Mission}
+use Rattle.mission_items.specs.Made.{has_head}
+use Rattle.log_fields.specs.declared.fault.Cause.{Cause}
+use Rattle.log_fields.specs.declared.fault.Cause.TheVariants as cause
+use Rattle.mission_items.specs.declared.mission.Mission.{Mission}
 use Rattle.mission_log.proofs.Heads.{TellsHead, step_head}
 
 -- what is known of all records, where a draft was made of the first ones and the others are left

@@ -5,9 +5,9 @@ use Rattle.std.proofs.lemmas.Bool.Decides.{nat_tests}
 use Rattle.std.proofs.lemmas.List.Folds.{list_all-append}
 use Rattle.csv_rows.specs.Records.{Record, records_of}
 use Rattle.mission_log.specs.Log.{after, is_note_record, log_by, log_from, log_of, nothing_yet, step}
-use Rattle.mission_log.specs.declared.fault.Cause.{Cause}
-use Rattle.mission_log.specs.declared.fault.Cause.TheVariants as cause
-use Rattle.mission_log.specs.declared.item.Mission.{Mission}
+use Rattle.log_fields.specs.declared.fault.Cause.{Cause}
+use Rattle.log_fields.specs.declared.fault.Cause.TheVariants as cause
+use Rattle.mission_items.specs.declared.mission.Mission.{Mission}
 
 -- a record that is refused ends the reading
 stands_after : (d : Mission) (s : Result Mission Cause) (f g : Mission → Result Mission (ℕ × Cause)) (fault : ℕ × Cause)

@@ -1,8 +1,5 @@
-pub mod Fields
-pub mod Steps
-pub mod Names
+pub mod Found
+pub mod Kept
 pub mod Room
 pub mod Log
-pub mod Valid
 pub mod Laws
-pub mod Kept

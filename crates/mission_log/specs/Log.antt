@@ -1,5 +1,5 @@
 -- What a log says: a mission, or the earliest record with a cause, and its lowest cause.
-use Rattle.std.specs.Prelude.{◌≡◌, ℕ, ◌+◌, ◌==◌, ◌||◌, not, nat_le, nat_lt, Bool, true, false, List, [], ◌∷◌, ◌++◌, length, Option, Some, None, Result, Ok, Err, codes, bytes_eq, ℤ, if◌then◌else◌}
+use Rattle.std.specs.Prelude.{◌≡◌, ℕ, ◌+◌, ◌-◌, ◌==◌, ◌&&◌, not, nat_le, nat_lt, Bool, true, false, List, [], ◌∷◌, ◌++◌, length, take, drop, Option, Some, None, Result, Ok, Err, ℤ, if◌then◌else◌}
 use Rattle.std.specs.List.{list_all}
 use Rattle.csv_rows.specs.Records.{Record, records_of}
 use Rattle.log_spelling.specs.Blanks.{is_note}
@@ -7,64 +7,65 @@ use Rattle.log_spelling.specs.Kinds.{kind_of}
 use Rattle.log_spelling.specs.declared.kind.Kind.{Kind}
 use Rattle.log_spelling.specs.declared.kind.Kind.TheVariants as kind
 use Rattle.slice_gates.specs.Cuts.{uniform_cuts}
-use Rattle.tube_spec.specs.Span.{Span}
-use Rattle.mission_log.specs.Fields.{count_of, field, name_at, number_at, range_at, tick_of}
-use Rattle.mission_log.specs.Names.{declaration_in, has_head, new_name, signal_of}
-use Rattle.mission_log.specs.Room.{room_for}
-use Rattle.mission_log.specs.Steps.{◌>>=◌, unless}
-use Rattle.mission_log.specs.declared.fault.Cause.{Cause}
-use Rattle.mission_log.specs.declared.fault.Cause.TheVariants as cause
+use Rattle.tube_store.specs.declared.SignalId.{SignalId}
+use Rattle.log_fields.specs.Fields.{field, tick_of}
+use Rattle.log_fields.specs.Kinds.{at_fields, beacon_fields, bound_fields, constell_fields, cut_fields, declared_fields, delay_fields, deriv_fields, eval_fields, mission_fields, ping_fields, range3_fields, range_fields, revisit_fields, settle_fields, text_fields}
+use Rattle.log_fields.specs.Steps.{◌>>=◌, unless}
+use Rattle.log_fields.specs.declared.fault.Cause.{Cause}
+use Rattle.log_fields.specs.declared.fault.Cause.TheVariants as cause
+use Rattle.mission_items.specs.Cuts.{with_cut}
+use Rattle.mission_items.specs.Made.{has_head, variable_range}
+use Rattle.mission_items.specs.Names.{are_distinct}
+use Rattle.mission_items.specs.Valid.{is_variable, may_precede_cut, norm_in, revisits_in}
+use Rattle.mission_items.specs.declared.item.Item.{Item}
+use Rattle.mission_items.specs.declared.item.Item.TheVariants as item
+use Rattle.mission_items.specs.declared.mission.Mission.{Mission}
+use Rattle.mission_log.specs.Found.{beacon_in, declaration_in, declarations_in, formula_in, has_values, leaves_for, mark_declared, mark_in, new_name, references_of, signal_in, variable_in, variables_for}
+use Rattle.mission_log.specs.Room.{has_mark, is_narrow, room_for}
 use Rattle.mission_log.specs.declared.fault.LogFault.{LogFault}
 use Rattle.mission_log.specs.declared.fault.LogFault.TheVariants as fault
-use Rattle.mission_log.specs.declared.item.Item.{Item}
-use Rattle.mission_log.specs.declared.item.Item.TheVariants as item
-use Rattle.mission_log.specs.declared.item.Mission.{Mission}
 
--- The steps of each kind stand in the order of the causes, of which the lowest wins.
+-- The steps of each kind stand in the order of the causes, of which the lowest wins: first what the fields say by themselves (Version,
+-- Fields, Name, Number, Range), and then, by the records before, Twice, Unknown for all names before WrongKind for any, Tick, Wide, Big,
+-- the room (Cells, Foot, Records), NoBeacon, Same, Queries, Plane, LateCut. Where a text is no relation within the limits (Text, Deep),
+-- its names and values are not asked for.
 
 abbrev pub nothing_yet : Mission
 nothing_yet = record { version = 0; ticks = 0; width = 0; cuts = []; items = [] }
 
+-- the mission with one record more; a cut adds its boundary
 abbrev pub with_item : Item → Mission → Mission
-with_item i d = record d { items = d.items ++ i ∷ [] }
+with_item i d = record d { cuts = with_cut d.cuts i; items = d.items ++ i ∷ [] }
 
--- the mission with one more record, where it fits
+-- the mission with one record more, where it fits
 abbrev pub added : Mission → Item → Result Mission Cause
 added d i = do
   room ← room_for d i
   Ok (with_item i d)
 
--- ---- mission,1,T,w
+-- ---- mission,V,T,w and cut,t
 
--- version 1, with slices of one width
-abbrev pub started : ℕ → ℕ → Mission → Mission
-started ticks width d = record { version = 1; ticks = ticks; width = width; cuts = uniform_cuts ticks width; items = d.items }
-
-unfoldable pub mission_fields : Record → Result (ℕ × ℕ) Cause
-mission_fields r = do
-  version ← unless (nat_le (length r) 1 || bytes_eq (field r 1) (codes "1")) cause.Version
-  fields ← unless (length r == 4) cause.Fields
-  ticks ← number_at r 2
-  width ← number_at r 3
-  t ← count_of ticks
-  w ← count_of width
-  Ok (t, w)
+-- a version, and slices of one width
+abbrev pub started : ℕ × ℕ × ℕ → Mission → Mission
+started clock d = record { version = clock.0; ticks = clock.1; width = clock.2; cuts = uniform_cuts clock.1 clock.2; items = d.items }
 
 unfoldable pub mission_step : Mission → Record → Result Mission Cause
 mission_step d r = do
   f ← mission_fields r
   once ← unless (not (has_head d.items)) cause.Twice
-  added (started f.0 f.1 d) item.Head
+  added (started f d) item.Head
 
--- ---- signal,name,lo,hi and var,name,lo,hi
+-- a kind in version 2 alone
+unfoldable pub cut_step : Mission → Record → Result Mission Cause
+cut_step d r = do
+  kind ← unless (d.version == 2) cause.Kind
+  f ← cut_fields r
+  tick ← tick_of d.ticks f
+  room ← room_for d (item.Cut tick)
+  early ← unless (list_all may_precede_cut d.items) cause.LateCut
+  Ok (with_item (item.Cut tick) d)
 
--- a new name and its declared range
-unfoldable pub declared_fields : Record → Result (List ℕ × Span) Cause
-declared_fields r = do
-  fields ← unless (length r == 4) cause.Fields
-  name ← name_at r 1
-  range ← range_at r 2
-  Ok (name, range)
+-- ---- signal,name,lo,hi and var,name,lo,hi and beacon,name,x1,x2,y1,y2
 
 unfoldable pub signal_step : Mission → Record → Result Mission Cause
 signal_step d r = do
@@ -78,67 +79,178 @@ variable_step d r = do
   once ← new_name d.items f.0
   added d (item.Variable f.0 f.1)
 
--- ---- deriv,x,v
+unfoldable pub beacon_step : Mission → Record → Result Mission Cause
+beacon_step d r = do
+  f ← beacon_fields r
+  once ← new_name d.items f.0
+  added d (item.Beacon f.0 f.1 f.2)
 
--- the names of a signal and of its rate
-unfoldable pub deriv_fields : Record → Result (List ℕ × List ℕ) Cause
-deriv_fields r = do
-  fields ← unless (length r == 3) cause.Fields
-  x ← name_at r 1
-  rate ← name_at r 2
-  Ok (x, rate)
+-- ---- deriv,x,v
 
 unfoldable pub deriv_step : Mission → Record → Result Mission Cause
 deriv_step d r = do
   f ← deriv_fields r
   first ← declaration_in d.items f.0
   second ← declaration_in d.items f.1
-  x ← signal_of first
-  rate ← signal_of second
+  x ← signal_in first
+  rate ← signal_in second
   room ← room_for d (item.Deriv x rate)
   same ← unless (not (x.0 == rate.0)) cause.Same
   Ok (with_item (item.Deriv x rate) d)
 
--- ---- bound,x,t1,t2,lo,hi
-
--- a signal's name, the first and the last tick, and the measured range
-unfoldable pub bound_fields : Record → Result (List ℕ × ℤ × ℤ × Span) Cause
-bound_fields r = do
-  fields ← unless (length r == 6) cause.Fields
-  name ← name_at r 1
-  first ← number_at r 2
-  last ← number_at r 3
-  range ← range_at r 4
-  Ok (name, first, last, range)
+-- ---- bound,x,t1,t2,lo,hi and at,x,t,lo,hi
 
 unfoldable pub bound_step : Mission → Record → Result Mission Cause
 bound_step d r = do
   f ← bound_fields r
   name ← declaration_in d.items f.0
-  x ← signal_of name
+  x ← signal_in name
   first ← tick_of d.ticks f.1
   last ← tick_of d.ticks f.2
   order ← unless (nat_le first last) cause.Tick
   added d (item.Bound x first last f.3)
 
--- ---- at,x,t,lo,hi
-
--- a signal's name, the tick and the measured range
-unfoldable pub at_fields : Record → Result (List ℕ × ℤ × Span) Cause
-at_fields r = do
-  fields ← unless (length r == 5) cause.Fields
-  name ← name_at r 1
-  tick ← number_at r 2
-  range ← range_at r 3
-  Ok (name, tick, range)
-
 unfoldable pub at_step : Mission → Record → Result Mission Cause
 at_step d r = do
   f ← at_fields r
   name ← declaration_in d.items f.0
-  x ← signal_of name
+  x ← signal_in name
   tick ← tick_of d.ticks f.1
   added d (item.At x tick f.2)
+
+-- ---- eval,x,t,z
+
+unfoldable pub eval_step : Mission → Record → Result Mission Cause
+eval_step d r = do
+  f ← eval_fields r
+  first ← declaration_in d.items f.0
+  second ← declaration_in d.items f.1.0
+  third ← declaration_in d.items f.2.0
+  x ← signal_in first
+  t ← variable_in second f.1.1
+  z ← variable_in third f.2.1
+  narrow ← unless (is_narrow d.ticks (variable_range d.items t.0)) cause.Wide
+  room ← room_for d (item.Eval x t z)
+  same ← unless (not (t.0 == z.0)) cause.Same
+  Ok (with_item (item.Eval x t z) d)
+
+-- ---- delay,x,y,tau
+
+unfoldable pub delay_step : Mission → Record → Result Mission Cause
+delay_step d r = do
+  f ← delay_fields r
+  first ← declaration_in d.items f.0
+  second ← declaration_in d.items f.1
+  third ← declaration_in d.items f.2.0
+  x ← signal_in first
+  y ← signal_in second
+  tau ← variable_in third f.2.1
+  narrow ← unless (is_narrow d.ticks (variable_range d.items tau.0)) cause.Wide
+  room ← room_for d (item.Delay x y tau)
+  same ← unless (not (x.0 == y.0)) cause.Same
+  Ok (with_item (item.Delay x y tau) d)
+
+-- ---- range,r1,r2,px,py,bx,by and range3,r1,r2,px,py,pz,bx,by,bz
+
+unfoldable pub range_step : Mission → Record → Result Mission Cause
+range_step d r = do
+  f ← range_fields r
+  names ← declarations_in d.items f.2
+  vs ← variables_for names
+  room ← room_for d (item.Dist2 f.0 f.1 (take 2 vs) (drop 2 vs))
+  same ← unless (are_distinct vs) cause.Same
+  Ok (with_item (item.Dist2 f.0 f.1 (take 2 vs) (drop 2 vs)) d)
+
+unfoldable pub range3_step : Mission → Record → Result Mission Cause
+range3_step d r = do
+  f ← range3_fields r
+  names ← declarations_in d.items f.2
+  vs ← variables_for names
+  room ← room_for d (item.Dist3 f.0 f.1 (take 3 vs) (drop 3 vs))
+  same ← unless (are_distinct vs) cause.Same
+  Ok (with_item (item.Dist3 f.0 f.1 (take 3 vs) (drop 3 vs)) d)
+
+-- ---- constell,px,py
+
+unfoldable pub constell_step : Mission → Record → Result Mission Cause
+constell_step d r = do
+  f ← constell_fields r
+  names ← declarations_in d.items (f.0 ∷ f.1 ∷ [])
+  vs ← variables_for names
+  room ← room_for d (item.Constell vs)
+  mark ← unless (has_mark d.items None) cause.NoBeacon
+  same ← unless (are_distinct vs) cause.Same
+  Ok (with_item (item.Constell vs) d)
+
+-- ---- ping,x,y,t1,t2,beacon,r1,r2
+
+-- the signals, the first and the last tick, the place of the beacon, and the distances
+unfoldable pub ping_said : Mission → Record → Result (SignalId × SignalId × ℕ × ℕ × Option ℕ × ℤ × ℤ) Cause
+ping_said d r = do
+  f ← ping_fields r
+  first ← declaration_in d.items f.0
+  second ← declaration_in d.items f.1
+  third ← mark_declared d.items f.4
+  x ← signal_in first
+  y ← signal_in second
+  beacon ← mark_in third
+  start ← tick_of d.ticks f.2
+  end ← tick_of d.ticks f.3
+  order ← unless (nat_le start end) cause.Tick
+  narrow ← unless (nat_le (end - start) 2000) cause.Wide
+  Ok (x, y, start, end, beacon, f.5, f.6)
+
+unfoldable pub ping_step : Mission → Record → Result Mission Cause
+ping_step d r = do
+  p ← ping_said d r
+  let ping = item.Ping p.0 p.1 p.2 p.3 p.4 p.5 p.6
+  room ← room_for d ping
+  mark ← unless (has_mark d.items p.4) cause.NoBeacon
+  same ← unless (not (p.0.0 == p.1.0)) cause.Same
+  Ok (with_item ping d)
+
+-- ---- expr,text and exprv,text
+
+unfoldable pub each_step : Mission → Record → Result Mission Cause
+each_step d r = do
+  text ← text_fields r
+  formula ← formula_in text
+  names ← declarations_in d.items (references_of formula)
+  ls ← leaves_for names
+  bounded ← unless (has_values d.items formula ls) cause.Big
+  added d (item.Each formula ls)
+
+-- of variables alone
+unfoldable pub single_step : Mission → Record → Result Mission Cause
+single_step d r = do
+  text ← text_fields r
+  formula ← formula_in text
+  names ← declarations_in d.items (references_of formula)
+  ls ← leaves_for names
+  variables ← unless (list_all is_variable ls) cause.WrongKind
+  bounded ← unless (has_values d.items formula ls) cause.Big
+  added d (item.Single formula ls)
+
+-- ---- revisit,x,y,R,G and settle
+
+unfoldable pub revisit_step : Mission → Record → Result Mission Cause
+revisit_step d r = do
+  f ← revisit_fields r
+  first ← declaration_in d.items f.0
+  second ← declaration_in d.items f.1
+  x ← signal_in first
+  y ← signal_in second
+  let question = item.Revisit (record { x = x; y = y; radius = f.2; gap = f.3; norm = norm_in d.version })
+  room ← room_for d question
+  same ← unless (not (x.0 == y.0)) cause.Same
+  few ← unless (nat_lt (revisits_in d.items) 16) cause.Queries
+  plane ← unless (nat_le d.ticks 20000) cause.Plane
+  Ok (with_item question d)
+
+unfoldable pub settle_step : Mission → Record → Result Mission Cause
+settle_step d r = do
+  f ← settle_fields r
+  added d item.Settle
 
 -- ---- one record
 
@@ -146,15 +258,32 @@ at_step d r = do
 abbrev pub in_mission : Mission → Result Mission Cause → Result Mission Cause
 in_mission d step = if has_head d.items then step else Err cause.NoMission
 
--- one line for each kind that is read; no other first field is a kind
+-- one line for each kind that speaks of what is declared before; no other first field is a kind
 unfoldable pub kind_step : Mission → Record → Option Kind → Result Mission Cause
+kind_step d r None = Err cause.Kind
 kind_step d r (Some kind.Mission) = mission_step d r
-kind_step d r (Some kind.Signal) = in_mission d (signal_step d r)
-kind_step d r (Some kind.Variable) = in_mission d (variable_step d r)
-kind_step d r (Some kind.Deriv) = in_mission d (deriv_step d r)
-kind_step d r (Some kind.Bound) = in_mission d (bound_step d r)
-kind_step d r (Some kind.At) = in_mission d (at_step d r)
-kind_step d r other = in_mission d (Err cause.Kind)
+kind_step d r (Some kind.Cut) = cut_step d r
+kind_step d r (Some kind.Signal) = signal_step d r
+kind_step d r (Some kind.Variable) = variable_step d r
+kind_step d r (Some kind.Beacon) = beacon_step d r
+kind_step d r (Some kind.Deriv) = deriv_step d r
+kind_step d r (Some kind.Bound) = bound_step d r
+kind_step d r (Some kind.At) = at_step d r
+kind_step d r (Some kind.Eval) = eval_step d r
+kind_step d r (Some kind.Delay) = delay_step d r
+kind_step d r (Some kind.Range) = range_step d r
+kind_step d r (Some kind.Range3) = range3_step d r
+kind_step d r (Some kind.Constell) = constell_step d r
+kind_step d r (Some kind.Ping) = ping_step d r
+kind_step d r (Some kind.Expr) = each_step d r
+kind_step d r (Some kind.Exprv) = single_step d r
+kind_step d r (Some kind.Revisit) = revisit_step d r
+kind_step d r (Some kind.Settle) = settle_step d r
+
+-- the first record that is no note is `mission`
+abbrev pub record_step : Mission → Record → Option Kind → Result Mission Cause
+record_step d r (Some kind.Mission) = kind_step d r (Some kind.Mission)
+record_step d r other = in_mission d (kind_step d r other)
 
 -- a record whose first field begins with `#` is a note
 abbrev pub is_note_record : Record → Bool
@@ -162,7 +291,7 @@ is_note_record r = is_note (field r 0)
 
 -- what a record makes of the mission so far
 unfoldable pub step : Mission → Record → Result Mission Cause
-step d r = if is_note_record r then added d item.Note else kind_step d r (kind_of (field r 0))
+step d r = if is_note_record r then added d item.Note else record_step d r (kind_of (field r 0))
 
 -- ---- the log
 

@@ -1,30 +1,31 @@
 //! A mission that is being read.
 
-ghost use Rattle.std.specs.Prelude.{◌≡◌, ◌≤◌, ◌<◌, ◌+◌, ◌||◌, not, true, false, None, Some, Ok, List, [], ◌∷◌, ◌++◌, ℕ, length, slice_index_or, IfOk, IfSome, OnOk};
-ghost use Rattle.csv.specs.Records.{fields_of};
+ghost use Rattle.std.specs.Prelude.{◌≡◌, ◌≤◌, ◌<◌, ◌+◌, ◌||◌, ◌&&◌, not, true, false, None, Some, Ok, List, [], ◌∷◌, ◌++◌, ℕ, is_some, length, slice_index_or, if◌then◌else◌, IfOk, IfSome, OnOk};
+ghost use Rattle.std.specs.List.{list_all};
 ghost use Rattle.slice_gates.specs.Cuts.{uniform_cuts};
-ghost use Rattle.tube_spec.specs.Grid.{last_tick};
-ghost use Rattle.mission_log.specs.Fields.{tick_of};
-ghost use Rattle.mission_log.specs.Steps.{Gives};
-ghost use Rattle.mission_log.specs.Names.{declaration_of, declaration_in, new_name, has_head, has_rate, is_rate_of, names_of, signal_of, signals_in, variables_in};
-ghost use Rattle.mission_log.specs.Room.{are_few, feet_of, foot_of, room_for, slices_in, touching};
-ghost use Rattle.mission_log.specs.Log.{added, at_step, bound_step, deriv_step, kind_step, mission_step, nothing_yet, signal_step, started, step, variable_step, with_item};
-ghost use Rattle.mission_log.specs.Valid.{IsMission, IsRight, IsClock};
-ghost use Rattle.mission_log.specs.Kept.{AreCounts, DeclaresNothing, IsKnown, IsPlaced, MayFollow};
+ghost use Rattle.log_fields.specs.Fields.{tick_of};
+ghost use Rattle.log_fields.specs.Steps.{Gives, unless};
+ghost use Rattle.mission_items.specs.Cuts.{with_cut};
+ghost use Rattle.mission_items.specs.Made.{beacons_in, has_head, rate_in, signals_in, ticks_from, variable_range, variables_in};
+ghost use Rattle.mission_items.specs.Names.{IsNamed, declaration_of, names_of, range_of};
+ghost use Rattle.mission_items.specs.Room.{are_few, evaluated, foot_of, slices_in};
+ghost use Rattle.mission_items.specs.Valid.{IsClock, IsMission, IsRight, IsSignal, is_revisit, may_precede_cut, revisits_in};
+ghost use Rattle.mission_log.specs.Found.{beacon_in, declaration_in, new_name, signal_in, variable_in};
+ghost use Rattle.mission_log.specs.Kept.{AreCounts, IsKnown, MayFollow};
+ghost use Rattle.mission_log.specs.Log.{added, nothing_yet, started, with_item};
+ghost use Rattle.mission_log.specs.Room.{is_narrow, room_for};
 
 use crate::counts::Counts;
-use crate::fault::{Cause, Stop};
-use crate::fields::{ensure, field, tick_of};
-use crate::item::{Decl, Item, Items, Mission};
-use crate::kinds::{at_fields, bound_fields, declared_fields, deriv_fields, mission_fields};
-use crate::slices::{evaluation_foot, touching};
-use csv::ByteRecord;
-use indexmap::IndexMap;
-use log_spelling::{Kind, is_note};
-use slice_gates::Grid;
+use int_interval::Interval;
+use log_clock::Clock;
+use log_fields::fields::{ensure, tick_of};
+use log_fields::{Cause, Stop};
+use log_spelling::Part;
+use mission_items::{Decl, Item, Items, Mission};
+use name_table::NameTable;
 use std::alloc::Global;
 use std::marker::Model;
-use tube_io::{NoMemory, Text};
+use tube_io::NoMemory;
 use tube_store::{SignalId, VarId};
 
 /// A mission that is being read. A contract sees the mission so far.
@@ -33,23 +34,28 @@ pub struct Draft {
     version: u32,
     ticks: u32,
     width: u32,
-    grid: Option<Grid>,
+    clock: Clock,
     items: Vec<Item>,
-    names: IndexMap<Vec<u8>, Decl>,
+    names: NameTable,
     has_head: bool,
+    is_open: bool,
     rated: [bool; 64],
     counts: Counts,
 }
 
 impl Model for Draft {
-    ghost use Rattle.mission_log.specs.declared.item.Mission.{Mission};
-    ghost use Rattle.mission_log.specs.Kept.{IsKept, cuts_in};
+    ghost use Rattle.std.specs.Coded.{codes};
+    ghost use Rattle.formula_text.specs.Stored.{relation_code};
+    ghost use Rattle.mission_items.specs.declared.mission.Mission.{Mission};
+    ghost use Rattle.mission_log.specs.Kept.{IsKept};
 
     ghost Value = { Mission };
 
-    ghost view = { λ d. record { version = d.version; ticks = d.ticks; width = d.width; cuts = cuts_in d.grid; items = d.items.items } };
+    ghost coded = { Prim.hlevel (codes, relation_code (Prim.hlevel codes)) };
 
-    ghost invariant = { λ d. IsKept d.names.entries d.has_head d.rated d.counts (record { version = d.version; ticks = d.ticks; width = d.width; cuts = cuts_in d.grid; items = d.items.items }) };
+    ghost view = { λ d. record { version = d.version; ticks = d.ticks; width = d.width; cuts = d.clock; items = d.items.items } };
+
+    ghost invariant = { λ d. IsKept d.names d.has_head d.is_open d.rated d.counts (record { version = d.version; ticks = d.ticks; width = d.width; cuts = d.clock; items = d.items.items }) };
 }
 
 impl Draft {
@@ -61,18 +67,17 @@ impl Draft {
             version: 0,
             ticks: 0,
             width: 0,
-            grid: None,
+            clock: Clock::new(alloc),
             items: Vec::new(alloc),
-            names: IndexMap::new(alloc),
+            names: NameTable::new(alloc),
             has_head: false,
+            is_open: true,
             rated: no_rates(),
-            counts: Counts {
-                signals: 0,
-                variables: 0,
-                feet: 0,
-            },
+            counts: Counts::none(),
         }
     }
+
+    // ---- what was read
 
     /// How many records were taken.
     pub fn len(&self) -> usize
@@ -89,15 +94,83 @@ impl Draft {
         self.has_head
     }
 
-    fn find(&self, name: &[u8]) -> Option<Decl>
-        ensures value { result ≡ declaration_of name.now self.now.items }
-        ensures known { IfSome result (IsKnown self.now.items) }
+    /// Whether a cut may still come.
+    pub fn is_open(&self) -> bool
+        ensures { result ≡ list_all may_precede_cut self.now.items }
     {
-        self.names.get(name).copied()
+        self.is_open
     }
 
-    // What a name is declared as.
-    fn declaration(&self, name: &[u8]) -> Result<Decl, Stop>
+    /// The version of the log, and 0 before its mission record.
+    pub fn version(&self) -> u32
+        ensures { result ≡ self.now.version }
+    {
+        self.version
+    }
+
+    /// The last tick of the clock.
+    pub fn ticks(&self) -> u32
+        ensures { result ≡ self.now.ticks }
+    {
+        self.ticks
+    }
+
+    /// How many slices there are.
+    pub fn slices(&self) -> u32
+        ensures value { result ≡ slices_in self.now.cuts }
+        ensures few { result ≤ 100000 }
+    {
+        self.clock.slices()
+    }
+
+    /// The number of the next signal.
+    pub fn signals(&self) -> u32
+        ensures { result ≡ signals_in self.now.items }
+    {
+        self.counts.signals
+    }
+
+    /// The number of the next variable.
+    pub fn variables(&self) -> u32
+        ensures { result ≡ variables_in self.now.items }
+    {
+        self.counts.variables
+    }
+
+    /// How many beacons there are.
+    pub fn beacons(&self) -> u32
+        ensures value { result ≡ beacons_in self.now.items }
+        ensures few { result ≤ 200000 }
+    {
+        self.counts.beacons
+    }
+
+    /// How many questions for loops there are.
+    pub fn revisits(&self) -> u32
+        ensures { result ≡ revisits_in self.now.items }
+    {
+        self.counts.revisits
+    }
+
+    /// Whether some record gives a signal a rate.
+    pub fn is_rated(&self, x: SignalId) -> bool
+        requires { x.0 < signals_in self.now.items }
+        ensures { result ≡ is_some (rate_in self.now.items x.0) }
+    {
+        self.rated[x.0 as usize]
+    }
+
+    // ---- names
+
+    /// What a name is declared as.
+    pub fn find(&self, name: &[u8]) -> Option<Decl>
+        ensures { result ≡ declaration_of name.now self.now.items }
+    {
+        self.names.find(name)
+    }
+
+    /// What a name is declared as, which it has to be.
+    pub fn declaration(&self, name: &[u8]) -> Result<Decl, Stop>
         ensures value { Gives (λ d. d) result (declaration_in self.now.items name.now) }
         ensures known { IfOk result (IsKnown self.now.items) }
     {
@@ -107,177 +180,8 @@ impl Draft {
         }
     }
 
-    fn slices(&self) -> u32
-        ensures value { result ≡ slices_in self.now.cuts }
-        ensures small { result ≤ 100000 }
-    {
-        match &self.grid {
-            None => 0,
-            Some(grid) => {
-                grid.known();
-                grid.slices()
-            }
-        }
-    }
-
-    fn has_rate(&self, x: SignalId) -> bool
-        requires { x.0 < signals_in self.now.items }
-        ensures { result ≡ has_rate x.0 self.now.items }
-    {
-        self.rated[x.0 as usize]
-    }
-
-    fn touching(&self, tick: u32) -> u32
-        requires headed { has_head self.now.items ≡ true }
-        requires within { tick ≤ self.now.ticks }
-        ensures value { result ≡ touching self.now.cuts tick tick }
-        ensures small { result ≤ 2 }
-    {
-        match &self.grid {
-            None => 0,
-            Some(grid) => touching(grid, tick),
-        }
-    }
-
-    // The read entries of a record.
-    fn foot_of(&self, item: &Item) -> u32
-        requires placed { IsPlaced self.now.ticks self.now.items item.now }
-        requires follows { MayFollow self.now item.now }
-        ensures value { result ≡ foot_of self.now.cuts self.now.items item.now }
-        ensures small { result ≤ 400000 }
-    {
-        match item {
-            Item::Signal { .. } => 3 * self.slices(),
-            Item::Deriv { .. } => 4 * self.slices(),
-            Item::At { x, tick, .. } => evaluation_foot(self.has_rate(*x), self.touching(*tick)),
-            Item::Head | Item::Note | Item::Variable { .. } | Item::Bound { .. } => 0,
-        }
-    }
-
-    fn are_few(&self, counts: Counts) -> bool
-        ensures { result ≡ are_few self.now.cuts counts.signals counts.variables }
-    {
-        let each = 2 * self.slices() as u64 + 1;
-        let cells = counts.signals as u64 * each + counts.variables as u64;
-        counts.signals <= 64 && counts.variables <= 200_000 && cells <= 2_000_000
-    }
-
-    // The counts with one record more, where it fits.
-    #[tactic(auto, unfolding(crate::specs::Room::room_for))]
-    fn room_for(&self, item: &Item) -> Result<Counts, Stop>
-        requires placed { IsPlaced self.now.ticks self.now.items item.now }
-        requires follows { MayFollow self.now item.now }
-        ensures value { Gives (λ _. tt) result (room_for self.now item.now) }
-        ensures counts { IfOk result (λ counts. AreCounts counts self.now.cuts (self.now.items ++ item.now ∷ [])) }
-    {
-        let counts = Counts {
-            signals: self.counts.signals + item.signals_made(),
-            variables: self.counts.variables + item.variables_made(),
-            feet: self.counts.feet + self.foot_of(item),
-        };
-        ensure(self.are_few(counts), Cause::Cells)?;
-        ensure(counts.feet <= 20_000_000, Cause::Foot)?;
-        ensure(self.items.len() < 1_000_000, Cause::Records)?;
-        Ok(counts)
-    }
-
-    // Adds a record that declares no name and fits.
-    fn push(&mut self, item: Item, counts: Counts) -> Result<(), NoMemory>
-        requires right { IsRight self.old.ticks self.old.items item }
-        requires follows { MayFollow self.old item }
-        requires plain { DeclaresNothing item }
-        requires room { room_for self.old item ≡ Ok tt }
-        requires counts { AreCounts counts self.old.cuts (self.old.items ++ item ∷ []) }
-        ensures { OnOk result (self.new ≡ with_item item self.old) }
-    {
-        self.items.reserve(1)?;
-        self.has_head = self.has_head | item.is_head();
-        mark_rate(&mut self.rated, &item);
-        self.items.push(item).unwrap();
-        self.counts = counts;
-        Ok(())
-    }
-
-    // Adds a signal or a variable under a name that is not declared yet.
-    fn declare(
-        &mut self,
-        alloc: Global,
-        name: &[u8],
-        declared: Decl,
-        item: Item,
-        counts: Counts,
-    ) -> Result<(), NoMemory>
-        requires fresh { declaration_of name.now self.old.items ≡ None }
-        requires names { names_of (signals_in self.old.items) (variables_in self.old.items) item ≡ (name.now, declared) ∷ [] }
-        requires right { IsRight self.old.ticks self.old.items item }
-        requires follows { MayFollow self.old item }
-        requires room { room_for self.old item ≡ Ok tt }
-        requires counts { AreCounts counts self.old.cuts (self.old.items ++ item ∷ []) }
-        ensures { OnOk result (self.new ≡ with_item item self.old) }
-    {
-        let key = Vec::from_slice(alloc, name)?;
-        self.items.reserve(1)?;
-        self.names.insert(key, declared)?;
-        self.items.push(item).unwrap();
-        self.counts = counts;
-        Ok(())
-    }
-
-    // Adds a record that declares no name.
-    fn add(&mut self, item: Item) -> Result<(), Stop>
-        requires right { IsRight self.old.ticks self.old.items item }
-        requires follows { MayFollow self.old item }
-        requires placed { IsPlaced self.old.ticks self.old.items item }
-        requires plain { DeclaresNothing item }
-        ensures { Gives (λ _. self.new) result (added self.old item) }
-    {
-        let counts = self.room_for(&item)?;
-        self.push(item, counts)?;
-        Ok(())
-    }
-
-    // Starts the clock of version 1.
-    fn start(&mut self, alloc: Global, ticks: u32, width: u32) -> Result<(), NoMemory>
-        requires headless { has_head self.old.items ≡ false }
-        requires some_tick { 1 ≤ ticks }
-        requires few_ticks { ticks ≤ 100000 }
-        requires some_width { 1 ≤ width }
-        requires small_width { width ≤ 100000 }
-        ensures started { OnOk result (self.new ≡ started ticks width self.old) }
-        ensures clock { OnOk result (IsClock 1 ticks width (uniform_cuts ticks width)) }
-    {
-        let grid = match Grid::uniform(alloc, ticks, width) {
-            Ok(grid) => grid,
-            Err(_) => return Err(NoMemory),
-        };
-        grid.known();
-        self.version = 1;
-        self.ticks = ticks;
-        self.width = width;
-        self.grid = Some(grid);
-        Ok(())
-    }
-
-    fn signal(&self, declared: Decl) -> Result<SignalId, Stop>
-        requires { IsKnown self.now.items declared }
-        ensures value { Gives (λ x. x) result (signal_of declared) }
-        ensures known { IfOk result (λ x. x.0 < signals_in self.now.items) }
-    {
-        match declared {
-            Decl::Signal(x) => Ok(x),
-            Decl::Variable(_) => Err(Stop::Because(Cause::WrongKind)),
-        }
-    }
-
-    fn tick(&self, n: i64) -> Result<u32, Stop>
-        ensures value { Gives (λ tick. tick) result (tick_of self.now.ticks n) }
-        ensures within { IfOk result (λ tick. tick ≤ self.now.ticks) }
-    {
-        tick_of(self.ticks, n)
-    }
-
-    // A name that is declared now.
-    fn ensure_new(&self, name: &[u8]) -> Result<(), Stop>
+    /// A name that is declared now.
+    pub fn ensure_new(&self, name: &[u8]) -> Result<(), Stop>
         ensures value { Gives (λ _. tt) result (new_name self.now.items name.now) }
         ensures fresh { OnOk result (declaration_of name.now self.now.items ≡ None) }
     {
@@ -287,176 +191,263 @@ impl Draft {
         }
     }
 
-    #[tactic(auto, unfolding(crate::specs::Log::mission_step))]
-    fn take_mission(&mut self, alloc: Global, row: &ByteRecord) -> Result<(), Stop>
-        ensures { Gives (λ _. self.new) result (mission_step self.old (fields_of row.now)) }
+    /// The signal that a name stands for.
+    pub fn signal(&self, declared: Decl) -> Result<SignalId, Stop>
+        requires { IsKnown self.now.items declared }
+        ensures value { Gives (λ x. x) result (signal_in declared) }
+        ensures known { IfOk result (IsSignal self.now.items) }
     {
-        let clock = mission_fields(row)?;
-        ensure(!self.has_head(), Cause::Twice)?;
-        self.start(alloc, clock.ticks, clock.width)?;
-        self.add(Item::Head)?;
+        match declared {
+            Decl::Signal { id, .. } => Ok(id),
+            _ => Err(Stop::Because(Cause::WrongKind)),
+        }
+    }
+
+    /// The variable that a part of what a name stands for is.
+    pub fn variable(&self, declared: Decl, part: Part) -> Result<VarId, Stop>
+        requires { IsKnown self.now.items declared }
+        ensures value { Gives (λ v. v) result (variable_in declared part) }
+        ensures named { IfOk result (IsNamed self.now.items) }
+        ensures ranged { IfOk result (λ v. variable_range self.now.items v.0 ≡ range_of declared part) }
+    {
+        let _made = self.counts.variables;
+        match (declared, part) {
+            (Decl::Variable { id, .. }, Part::Whole) => Ok(id),
+            (Decl::Beacon { first, .. }, Part::X) => Ok(first),
+            (Decl::Beacon { first, .. }, Part::Y) => Ok(VarId(first.0 + 1)),
+            _ => Err(Stop::Because(Cause::WrongKind)),
+        }
+    }
+
+    /// The place of the beacon that a name stands for.
+    pub fn beacon(&self, declared: Decl) -> Result<u32, Stop>
+        requires { IsKnown self.now.items declared }
+        ensures value { Gives (λ place. place) result (beacon_in declared) }
+        ensures known { IfOk result (λ place. place < beacons_in self.now.items) }
+    {
+        match declared {
+            Decl::Beacon { place, .. } => Ok(place),
+            _ => Err(Stop::Because(Cause::WrongKind)),
+        }
+    }
+
+    // ---- ticks
+
+    /// A tick of the clock.
+    pub fn tick(&self, n: i64) -> Result<u32, Stop>
+        ensures value { Gives (λ tick. tick) result (tick_of self.now.ticks n) }
+        ensures within { IfOk result (λ tick. tick ≤ self.now.ticks) }
+    {
+        tick_of(self.ticks, n)
+    }
+
+    /// A time or a delay with this range has few ticks enough.
+    pub fn ensure_narrow(&self, range: Interval) -> Result<(), Stop>
+        ensures value { Gives (λ _. tt) result (unless (is_narrow self.now.ticks range) Cause.Wide) }
+        ensures narrow { OnOk result (is_narrow self.now.ticks range ≡ true) }
+    {
+        ensure(is_narrow(self.ticks, range), Cause::Wide)
+    }
+
+    /// How many cells an evaluation of a signal reads, at a time with this range.
+    pub fn evaluation(
+        &mut self,
+        alloc: Global,
+        x: SignalId,
+        range: Interval,
+    ) -> Result<u32, NoMemory>
+        requires { x.0 < signals_in self.old.items }
+        ensures kept { self.new ≡ self.old }
+        ensures value { IfOk result (λ foot. foot ≡ evaluated self.old.cuts self.old.items x.0 range) }
+        ensures small { IfOk result (λ foot. foot ≤ 500000) }
+    {
+        let is_rated = self.is_rated(x);
+        let slices = self.clock.touching(alloc, range)?;
+        let each = 2 * slices + 1;
+        if is_rated {
+            return Ok(2 + 2 * each);
+        }
+        Ok(2 + each)
+    }
+
+    /// How many cells an evaluation of a signal reads, at the ticks from `first` to `last`.
+    pub fn evaluation_during(
+        &mut self,
+        alloc: Global,
+        x: SignalId,
+        first: u32,
+        last: u32,
+    ) -> Result<u32, NoMemory>
+        requires signal { x.0 < signals_in self.old.items }
+        requires order { first ≤ last }
+        ensures kept { self.new ≡ self.old }
+        ensures value { IfOk result (λ foot. foot ≡ evaluated self.old.cuts self.old.items x.0 (ticks_from first last)) }
+        ensures small { IfOk result (λ foot. foot ≤ 500000) }
+    {
+        self.evaluation(alloc, x, ticks_from(first, last))
+    }
+
+    // ---- room
+
+    /// Whether so many signals and variables fit.
+    pub fn are_few(&self, signals: u32, variables: u32) -> bool
+        ensures { result ≡ are_few self.now.cuts signals variables }
+    {
+        let each = 2 * u64::from(self.slices()) + 1;
+        let cells = u64::from(signals) * each + u64::from(variables);
+        signals <= 64 && variables <= 200_000 && cells <= 2_000_000
+    }
+
+    /// The counts with one record more, where it fits.
+    #[tactic(auto, unfolding(crate::specs::Room::room_for))]
+    pub fn room_for(&self, item: &Item, foot: u32) -> Result<Counts, Stop>
+        requires foot { foot ≡ foot_of self.now.cuts self.now.items item.now }
+        requires small { foot ≤ 100000000 }
+        ensures value { Gives (λ _. tt) result (room_for self.now item.now) }
+        ensures counts { IfOk result (λ counts. AreCounts counts self.now.cuts (self.now.items ++ item.now ∷ [])) }
+    {
+        let signals = self.counts.signals + item.signals_made();
+        let variables = self.counts.variables + item.variables_made();
+        let feet = self.counts.feet + foot;
+        ensure(self.are_few(signals, variables), Cause::Cells)?;
+        ensure(feet <= 20_000_000, Cause::Foot)?;
+        ensure(self.items.len() < 1_000_000, Cause::Records)?;
+        Ok(Counts {
+            signals,
+            variables,
+            beacons: self.counts.beacons + item.beacons_made(),
+            revisits: self.counts.revisits + revisits_made(item),
+            feet,
+        })
+    }
+
+    // ---- one record more
+
+    /// Adds a record that declares no name, is no cut, and fits.
+    pub fn push(&mut self, item: Item, counts: Counts) -> Result<(), NoMemory>
+        requires right { IsRight self.old.version self.old.ticks self.old.items item }
+        requires follows { MayFollow self.old item }
+        requires nameless { names_of self.old.items item ≡ [] }
+        requires uncut { with_cut self.old.cuts item ≡ self.old.cuts }
+        requires room { room_for self.old item ≡ Ok tt }
+        requires counts { AreCounts counts self.old.cuts (self.old.items ++ item ∷ []) }
+        ensures { OnOk result (self.new ≡ with_item item self.old) }
+    {
+        self.items.reserve(1)?;
+        self.has_head = self.has_head | item.is_head();
+        self.is_open = self.is_open & may_precede_cut(&item);
+        mark_rate(&mut self.rated, &item);
+        self.items.push(item).unwrap();
+        self.counts = counts;
         Ok(())
     }
 
-    #[tactic(auto, unfolding(crate::specs::Log::signal_step))]
-    fn take_signal(&mut self, alloc: Global, row: &ByteRecord) -> Result<(), Stop>
-        requires { has_head self.old.items ≡ true }
-        ensures { Gives (λ _. self.new) result (signal_step self.old (fields_of row.now)) }
+    /// Adds a record that declares a name, which is declared by no record before, and fits.
+    pub fn declare(
+        &mut self,
+        alloc: Global,
+        name: &[u8],
+        declared: Decl,
+        item: Item,
+        counts: Counts,
+    ) -> Result<(), NoMemory>
+        requires fresh { declaration_of name.now self.old.items ≡ None }
+        requires named { names_of self.old.items item ≡ (name.now, declared) ∷ [] }
+        requires right { IsRight self.old.version self.old.ticks self.old.items item }
+        requires follows { MayFollow self.old item }
+        requires uncut { with_cut self.old.cuts item ≡ self.old.cuts }
+        requires room { room_for self.old item ≡ Ok tt }
+        requires counts { AreCounts counts self.old.cuts (self.old.items ++ item ∷ []) }
+        ensures { OnOk result (self.new ≡ with_item item self.old) }
     {
-        let fields = match declared_fields(row) {
-            Ok(fields) => fields,
-            Err(stop) => return Err(stop),
-        };
-        self.ensure_new(fields.name)?;
-        let name = Text::new(alloc, fields.name)?;
-        let item = Item::Signal {
-            name,
-            range: fields.range,
-        };
-        let declared = Decl::Signal(SignalId(self.counts.signals));
-        let counts = self.room_for(&item)?;
-        self.declare(alloc, fields.name, declared, item, counts)?;
+        self.items.reserve(1)?;
+        self.names.declare(alloc, name, declared)?;
+        self.has_head = self.has_head | item.is_head();
+        self.is_open = self.is_open & may_precede_cut(&item);
+        mark_rate(&mut self.rated, &item);
+        self.items.push(item).unwrap();
+        self.counts = counts;
         Ok(())
     }
 
-    #[tactic(auto, unfolding(crate::specs::Log::variable_step))]
-    fn take_variable(&mut self, alloc: Global, row: &ByteRecord) -> Result<(), Stop>
-        requires { has_head self.old.items ≡ true }
-        ensures { Gives (λ _. self.new) result (variable_step self.old (fields_of row.now)) }
+    /// Adds a record that declares no name and is no cut, where it fits.
+    pub fn add(&mut self, item: Item, foot: u32) -> Result<(), Stop>
+        requires right { IsRight self.old.version self.old.ticks self.old.items item }
+        requires follows { MayFollow self.old item }
+        requires nameless { names_of self.old.items item ≡ [] }
+        requires uncut { with_cut self.old.cuts item ≡ self.old.cuts }
+        requires foot { foot ≡ foot_of self.old.cuts self.old.items item }
+        requires small { foot ≤ 100000000 }
+        ensures { Gives (λ _. self.new) result (added self.old item) }
     {
-        let fields = match declared_fields(row) {
-            Ok(fields) => fields,
-            Err(stop) => return Err(stop),
-        };
-        self.ensure_new(fields.name)?;
-        let name = Text::new(alloc, fields.name)?;
-        let item = Item::Variable {
-            name,
-            range: fields.range,
-        };
-        let declared = Decl::Variable(VarId(self.counts.variables));
-        let counts = self.room_for(&item)?;
-        self.declare(alloc, fields.name, declared, item, counts)?;
-        Ok(())
-    }
-
-    #[tactic(auto, unfolding(crate::specs::Log::deriv_step))]
-    fn take_deriv(&mut self, row: &ByteRecord) -> Result<(), Stop>
-        requires { has_head self.old.items ≡ true }
-        ensures { Gives (λ _. self.new) result (deriv_step self.old (fields_of row.now)) }
-    {
-        let fields = match deriv_fields(row) {
-            Ok(fields) => fields,
-            Err(stop) => return Err(stop),
-        };
-        let x = self.declaration(fields.x)?;
-        let rate = self.declaration(fields.rate)?;
-        let x = self.signal(x)?;
-        let rate = self.signal(rate)?;
-        let item = Item::Deriv { x, rate };
-        let counts = self.room_for(&item)?;
-        ensure(x.0 != rate.0, Cause::Same)?;
+        let counts = self.room_for(&item, foot)?;
         self.push(item, counts)?;
         Ok(())
     }
 
-    #[tactic(auto, unfolding(crate::specs::Log::bound_step))]
-    fn take_bound(&mut self, row: &ByteRecord) -> Result<(), Stop>
-        requires { has_head self.old.items ≡ true }
-        ensures { Gives (λ _. self.new) result (bound_step self.old (fields_of row.now)) }
+    /// Adds a cut, which fits.
+    pub fn push_cut(&mut self, tick: u32) -> Result<(), NoMemory>
+        requires version { self.old.version ≡ 2 }
+        requires headed { has_head self.old.items ≡ true }
+        requires within { tick ≤ self.old.ticks }
+        requires early { list_all may_precede_cut self.old.items ≡ true }
+        requires room { room_for self.old (Item.Cut tick) ≡ Ok tt }
+        ensures { OnOk result (self.new ≡ with_item (Item.Cut tick) self.old) }
     {
-        let fields = match bound_fields(row) {
-            Ok(fields) => fields,
-            Err(stop) => return Err(stop),
-        };
-        let declared = self.declaration(fields.name)?;
-        let x = self.signal(declared)?;
-        let first = self.tick(fields.first)?;
-        let last = self.tick(fields.last)?;
-        ensure(first <= last, Cause::Tick)?;
-        self.add(Item::Bound {
-            x,
-            first,
-            last,
-            range: fields.range,
-        })?;
+        self.items.reserve(1)?;
+        self.clock.cut(tick);
+        self.items.push(Item::Cut { tick }).unwrap();
         Ok(())
     }
 
-    #[tactic(auto, unfolding(crate::specs::Log::at_step))]
-    fn take_at(&mut self, row: &ByteRecord) -> Result<(), Stop>
-        requires { has_head self.old.items ≡ true }
-        ensures { Gives (λ _. self.new) result (at_step self.old (fields_of row.now)) }
+    /// Starts the clock.
+    pub fn start(
+        &mut self,
+        alloc: Global,
+        version: u32,
+        ticks: u32,
+        width: u32,
+    ) -> Result<(), NoMemory>
+        requires headless { has_head self.old.items ≡ false }
+        requires first_version { 1 ≤ version }
+        requires last_version { version ≤ 2 }
+        requires some_tick { 1 ≤ ticks }
+        requires few_ticks { ticks ≤ 100000 }
+        requires some_width { 1 ≤ width }
+        requires small_width { width ≤ 100000 }
+        ensures started { OnOk result (self.new ≡ started (version, ticks, width) self.old) }
+        ensures clock { OnOk result (IsClock version ticks width (uniform_cuts ticks width) self.old.items) }
     {
-        let fields = match at_fields(row) {
-            Ok(fields) => fields,
-            Err(stop) => return Err(stop),
-        };
-        let declared = self.declaration(fields.name)?;
-        let x = self.signal(declared)?;
-        let tick = self.tick(fields.tick)?;
-        self.add(Item::At {
-            x,
-            tick,
-            range: fields.range,
-        })?;
+        let clock = Clock::start(alloc, ticks, width)?;
+        self.version = version;
+        self.ticks = ticks;
+        self.width = width;
+        self.clock = clock;
         Ok(())
-    }
-
-    #[tactic(auto, unfolding(crate::specs::Log::kind_step))]
-    fn take_kind(&mut self, alloc: Global, row: &ByteRecord, kind: Option<Kind>) -> Result<(), Stop>
-        ensures { Gives (λ _. self.new) result (kind_step self.old (fields_of row.now) kind) }
-    {
-        if let Some(Kind::Mission) = kind {
-            return self.take_mission(alloc, row);
-        }
-        ensure(self.has_head(), Cause::NoMission)?;
-        match kind {
-            Some(Kind::Signal) => return self.take_signal(alloc, row),
-            Some(Kind::Variable) => return self.take_variable(alloc, row),
-            Some(Kind::Deriv) => return self.take_deriv(row),
-            Some(Kind::Bound) => return self.take_bound(row),
-            Some(Kind::At) => return self.take_at(row),
-            _ => return Err(Stop::Because(Cause::Kind)),
-        }
-    }
-
-    /// Takes the next record. After an error the draft is of no use.
-    #[tactic(auto, unfolding(crate::specs::Log::step))]
-    pub fn take(&mut self, alloc: Global, row: &ByteRecord) -> Result<(), Stop>
-        ensures { Gives (λ _. self.new) result (step self.old (fields_of row.now)) }
-    {
-        let word = field(row, 0);
-        if is_note(word) {
-            return self.add(Item::Note);
-        }
-        self.take_kind(alloc, row, Kind::of(word))
     }
 
     /// The mission.
-    pub fn finish(self) -> Mission
+    pub fn finish(self, alloc: Global) -> Result<Mission, NoMemory>
         requires { has_head self.items ≡ true }
-        ensures value { result ≡ self }
-        ensures valid { IsMission result }
+        ensures value { IfOk result (λ mission. mission ≡ self) }
+        ensures valid { IfOk result IsMission }
     {
         let Draft {
             version,
             ticks,
             width,
-            grid,
+            clock,
             items,
             ..
         } = self;
-        match grid {
-            Some(cuts) => Mission {
-                version,
-                ticks,
-                width,
-                cuts,
-                items: Items::new(items),
-            },
-            None => unreachable!(),
-        }
+        let cuts = clock.finish(alloc)?;
+        Ok(Mission {
+            version,
+            ticks,
+            width,
+            cuts,
+            items: Items::new(items),
+        })
     }
 }
 
@@ -466,8 +457,45 @@ fn no_rates() -> [bool; 64]
     [false; 64]
 }
 
+#[tactic(auto, using(crate::proofs::Records::natural_most))]
+fn is_narrow(end: u32, range: Interval) -> bool
+    ensures { result ≡ is_narrow end range }
+{
+    let first = range.lo().max(0);
+    let last = range.hi().min(i64::from(end));
+    if last < first {
+        return true;
+    }
+    last - first <= 2_000
+}
+
+fn ticks_from(first: u32, last: u32) -> Interval
+    requires { first ≤ last }
+    ensures { result ≡ ticks_from first last }
+{
+    match Interval::new(i64::from(first), i64::from(last)) {
+        Some(ticks) => ticks,
+        None => unreachable!(),
+    }
+}
+
+fn may_precede_cut(item: &Item) -> bool
+    ensures { result ≡ may_precede_cut item.now }
+{
+    matches!(item, Item::Head | Item::Note | Item::Cut { .. })
+}
+
+fn revisits_made(item: &Item) -> u32
+    ensures { result ≡ (if is_revisit item.now then 1 else 0) }
+{
+    match item {
+        Item::Revisit { .. } => 1,
+        _ => 0,
+    }
+}
+
 fn mark_rate(rated: &mut [bool; 64], item: &Item)
-    ensures { (x : ℕ) → x < 64 → slice_index_or rated.new x false ≡ (slice_index_or rated.old x false || is_rate_of x item.now) }
+    ensures { (x : ℕ) → x < 64 → slice_index_or rated.new x false ≡ (slice_index_or rated.old x false || is_some (rate_in (item.now ∷ []) x)) }
 {
     if let Item::Deriv { x, .. } = item {
         let place = x.0 as usize;

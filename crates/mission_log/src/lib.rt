@@ -1,31 +1,30 @@
 //! The mission log: a text of records, read into a mission.
 //!
-//! A log is a list of records, one a line, as `csv` defines them. Its first record that is no note is
-//! `mission,1,T,w`: version 1, a clock of the ticks 0 to T, cut into slices of w ticks. The records after
-//! it declare signals and variables and say what holds of them.
+//! A log is a list of records, one a line, as `csv` defines them. Its first record that is no note is `mission,V,T,w`: version 1 or 2,
+//! a clock of the ticks 0 to T, in slices of w ticks. The records after it declare signals, variables and beacons and say what holds of
+//! them; `docs/LOG.md` has each kind with an example, the limits, and the causes for which a log is refused.
 //!
-//! | record | says |
-//! |---|---|
-//! | `signal,name,lo,hi` | a signal with values in `lo..hi` (millimetres) at every tick |
-//! | `var,name,lo,hi` | a variable with its value in `lo..hi` |
-//! | `deriv,x,v` | v is the rate of x: `x(k + 1) = x(k) + v(k)` |
-//! | `bound,x,t1,t2,lo,hi` | x is in `lo..hi` at the ticks `t1..t2` |
-//! | `at,x,t,lo,hi` | x is in `lo..hi` at tick t |
-//! | `# ..` | nothing: a note |
+//! `specs/Log.antt` says what a log is: the steps of each kind, in the order of the causes, and the mission that they make.
 #![tactic(auto)]
 
+mod clock;
 mod counts;
+mod declaring;
 mod draft;
 mod fault;
-mod fields;
-mod item;
-mod kinds;
+mod formulas;
 pub mod laws;
+mod meant;
+mod ping;
+mod points;
+mod questions;
 mod read;
-mod slices;
+mod signals;
+mod take;
 
-pub use fault::{Cause, LogFault};
-pub use item::{Decl, Item, Items, Mission};
+pub use fault::LogFault;
+pub use log_fields::Cause;
+pub use mission_items::{Decl, Item, Items, Mission};
 pub use read::read_log;
 
 #[cfg(test)]

@@ -3,24 +3,26 @@
 ghost use Rattle.std.specs.Prelude.{◌≡◌, ◌&&◌, true, Err, IfOk, MatchResult, if◌then◌else◌};
 ghost use Rattle.std.specs.List.{list_all};
 ghost use Rattle.csv_rows.specs.Records.{records_of};
+ghost use Rattle.mission_items.specs.Made.{has_head};
+ghost use Rattle.mission_items.specs.Valid.{IsMission};
 ghost use Rattle.mission_log.specs.Log.{IsLog, is_note_record, log_by, log_from, log_of, nothing_yet};
-ghost use Rattle.mission_log.specs.Names.{has_head};
-ghost use Rattle.mission_log.specs.Valid.{IsMission};
 
 use crate::draft::Draft;
-use crate::fault::{Cause, LogFault, Stop};
-use crate::fields::field;
-use crate::item::Mission;
+use crate::fault::LogFault;
+use crate::take::take;
 use csv::ByteRecord;
 use csv_rows::Rows;
+use log_fields::fields::field;
+use log_fields::{Cause, Stop};
 use log_spelling::is_note;
+use mission_items::Mission;
 use std::alloc::Global;
 use tube_io::NoMemory;
 
 /// Reads a log. Where it is refused, the earliest record that has a cause is told by its number, from 1
 /// on, with the lowest of its causes. Number 0 comes first: a log of more than 67,108,864 bytes is too
 /// long, and one with no record but notes has no mission. The time is linear in the number of bytes, and
-/// each record takes the memory of one `Item`.
+/// each record takes the memory of one `Item` and of its formula.
 pub fn read_log(alloc: Global, bytes: &[u8]) -> Result<Mission, LogFault>
     ensures log { IsLog result (log_of bytes.now) }
     ensures valid { IfOk result IsMission }
@@ -32,7 +34,7 @@ pub fn read_log(alloc: Global, bytes: &[u8]) -> Result<Mission, LogFault>
         });
     }
     let draft = drafted(alloc, bytes)?;
-    Ok(draft.finish())
+    Ok(draft.finish(alloc)?)
 }
 
 #[tactic(auto, using(crate::proofs::Reading::reading_starts, crate::proofs::Reading::reading_goes_on))]
@@ -46,7 +48,7 @@ fn drafted(alloc: Global, bytes: &[u8]) -> Result<Draft, LogFault>
     while rows.next(&mut row)? {
         let number = draft.len() as u32 + 1;
         let are_notes = !draft.has_head() & is_note(field(&row, 0));
-        match draft.take(alloc, &row) {
+        match take(&mut draft, alloc, &row) {
             Ok(()) => {}
             Err(Stop::Memory) => return Err(LogFault::NoMemory),
             Err(Stop::Because(cause)) => {

@@ -6,17 +6,17 @@ use Rattle.csv.specs.Records.{fields_of}
 use Rattle.csv_rows.specs.Records.{records_of}
 use Rattle.log_spelling.specs.Blanks.{is_note}
 use Rattle.mission_log.specs.Log.{IsLog, is_note_record}
-use Rattle.mission_log.specs.Names.{has_head}
-use Rattle.mission_log.specs.declared.fault.Cause.{Cause}
-use Rattle.mission_log.specs.declared.fault.Cause.TheVariants as cause
-use Rattle.mission_log.specs.declared.item.Mission.{Mission}
+use Rattle.mission_items.specs.Made.{has_head}
+use Rattle.log_fields.specs.declared.fault.Cause.{Cause}
+use Rattle.log_fields.specs.declared.fault.Cause.TheVariants as cause
+use Rattle.mission_items.specs.declared.mission.Mission.{Mission}
 use Rattle.mission_log.proofs.Reading.{reading_ends, reading_goes_on, reading_stops}
 use Rattle.mission_log.proofs.read.drafted.Goals as goal
 
 pub loop-row-preserved : goal.loop-row-preserved
 loop-row-preserved c =
     let split = rw c.if-branch.true at c.in_ok-next.ensures.next in
-    reading_goes_on (records_of c.args.bytes.now) c.loop-row.rows c.next.new.self c.loop-row.draft c.take.new.self (fields_of c.next.new.row) c.loop-row.invariant split c.in-Ok.ensures
+    reading_goes_on (records_of c.args.bytes.now) c.loop-row.rows c.next.new.self c.loop-row.draft c.take.new.draft (fields_of c.next.new.row) c.loop-row.invariant split c.in-Ok.ensures
 
 pub returns-in-Err-Because-clause-log : goal.returns-in-Err-Because-clause-log
 returns-in-Err-Because-clause-log c =
