@@ -1,137 +1,37 @@
 -- What building records leaves.
-use Rattle.std.proofs.Common.{◌≡◌, ℕ, suc, ◌+◌, ◌-◌, ◌*◌, ◌<◌, ◌≤◌, Option, Some, None, List, [], ◌∷◌, ◌++◌, Bool, true, arith, refl, sym, ap, ap₂, subst, ◌∙◌, length, map, take, drop, length-append, append-nil, append_assoc, add-zero, length-take-le, replicate, slice_index}
-use Rattle.std.proofs.lemmas.List.{drop-take, drop-append-le, map-append, length-map, take-append-drop, replicate-append-replicate, take-take}
+use Rattle.std.proofs.Common.{◌≡◌, ℕ, ◌+◌, ◌<◌, ◌≤◌, Option, Some, None, List, [], ◌∷◌, ◌++◌, All, arith, refl, sym, ap, subst, ◌∙◌, length, map, take, drop, get_or, length-append, append-nil, append_assoc, add-zero, length-take-le, slice_index}
+use Rattle.std.proofs.lemmas.List.{drop-take, drop-append-le, length-map, take-append-drop, take-take, take_more}
 use Rattle.std.proofs.lemmas.List.Sums.{sum_by-append}
-use Rattle.std.proofs.lemmas.List.Concat.{flat_map-append}
-use Rattle.tube_spec.specs.Span.{Span}
+use Rattle.tube_spec.specs.Span.{Span, IsBounded}
 use Rattle.tube_spec.specs.Grid.{IsGrid, last_tick}
 use Rattle.tube_spec.specs.Shape.{Shape, Extends, no_shape}
 use Rattle.tube_spec.specs.Box.{IsBelow, IsBelowBox, box_more}
 use Rattle.tube_spec.specs.Assignment.{Assignment}
-use Rattle.tube_spec.specs.Owner.{Owner, with_owner, with_owners, start_of, declared_cells, owner_hull, owners_hull, hull_box}
-use Rattle.tube_spec.proofs.Prefixes.{IsBelow-append}
-use Rattle.tube_spec.proofs.Hulls.{with_owners-append, owners-extend, owners-below, IsBelow-both}
+use Rattle.tube_spec.specs.Owner.{Owner, with_owner, with_owners, start_of, owner_hull, owners_hull, hull_box}
+use Rattle.tube_spec.proofs.Hulls.{owners-below, owners-extend, IsBelow-both}
 use Rattle.tube_spec.proofs.Ticks.{last-greatest}
-use Rattle.tube_store.specs.State.{state_with}
 use Rattle.ctc_network.specs.Nets.{NetState}
-use Rattle.ctc_deriv.specs.Bounds.{each_below}
-use Rattle.tube_store.specs.declared.SignalId.{SignalId}
-use Rattle.mission_log.specs.declared.item.Item.{Item}
-use Rattle.mission_log.specs.declared.item.Item.TheVariants.{Signal, Deriv}
-use Rattle.mission_log.specs.declared.item.Mission.{Mission}
-use Rattle.mission_log.specs.Names.{signals_in}
-use Rattle.mission_log.specs.Valid.{IsMission, IsRight}
-use Rattle.mission_net.specs.Constraints.{Constraint, SliceOf, DerivOf, reads_of, reads_in}
+use Rattle.mission_items.specs.declared.item.Item.{Item}
+use Rattle.mission_items.specs.declared.item.Item.TheVariants as item
+use Rattle.mission_items.specs.declared.mission.Mission.{Mission}
+use Rattle.mission_items.specs.Made.{ranges_made, signal_made, signals_in, signals_made, variables_in, variables_made}
+use Rattle.mission_items.specs.Valid.{AreRight, IsMission, IsRange, IsRight}
+use Rattle.mission_items.proofs.Making.{signals-append, signals-last, variables-append, variables-last}
+use Rattle.mission_items.proofs.Ranges.{beacons-right, made-ranges, signal-range, signals-right}
+use Rattle.mission_items.proofs.Standing.{named-below}
+use Rattle.mission_net.specs.Constraints.{Constraint, reads_of, reads_in, IsOf}
 use Rattle.mission_net.specs.Records.{made, owners, owners_from, shape_by, start, constraints_of, constraints_from, constraints, SatisfiesFrom, SatisfiesAll}
+use Rattle.mission_net.specs.Tables.{IsTableOf, IsTaken, Table}
 use Rattle.mission_net.specs.declared.AnyCtc.{AnyCtc}
 use Rattle.mission_net.specs.Contractors.{constraint_of}
-use Rattle.mission_net.specs.Building.{IsNetOf, IsAdded}
+use Rattle.mission_net.specs.Building.{CanBuild, HasBeacon, IsAdded, IsBindable, IsNetOf, IsTimed}
 use Rattle.mission_net.proofs.Shapes.{owners-append, shape-snoc, shape-grid, shape-extends}
-use Rattle.mission_net.proofs.Counts.{signals-count}
-use Rattle.mission_net.proofs.Enclosing.{satisfies-in-range}
-use Rattle.mission_net.proofs.Reading.{start-append, constraints-append, constraints-snoc, cells-count, records-reads, records-count, each-reads, each-length}
-
--- ---- boxes with further cells
-
-pub more-low : (b : Option (List Span)) (declared more : List Span) → IsBelowBox b (Some declared) → IsBelowBox (box_more b more) (Some (declared ++ more))
-more-low None declared more h = tt
-more-low (Some xs) declared more h = IsBelow-append xs declared more h
-
-pub box_more-none : (b : Option (List Span)) → box_more b [] ≡ b
-box_more-none None = refl
-box_more-none (Some xs) = ap Some (append-nil xs)
-
-pub box_more-append : (b : Option (List Span)) (xs ys : List Span) → box_more (box_more b xs) ys ≡ box_more b (xs ++ ys)
-box_more-append None xs ys = refl
-box_more-append (Some b) xs ys = ap Some (append_assoc b xs ys)
-
--- ---- additions, one after another
-
-pub added-none : (a : NetState AnyCtc) → IsAdded [] [] a a
-added-none a = record { shape = refl; box = sym (box_more-none a.store.box); contractors = sym (append-nil (map constraint_of a.contractors)); waiting = sym (append-nil a.waiting) }
-
-pub added-then : (os ps : List Owner) (cs ds : List Constraint) (a b c : NetState AnyCtc) → IsAdded os cs a b → IsAdded ps ds b c → IsAdded (os ++ ps) (cs ++ ds) a c
-added-then os ps cs ds a b c p q =
-    let grid : b.store.shape.grid ≡ a.store.shape.grid = ap (λ (s : Shape). s.grid) p.shape ∙ (owners-extend os a.store.shape).grid in record {
-      shape = q.shape ∙ ap (λ (s : Shape). with_owners s ps) p.shape ∙ sym (with_owners-append os ps a.store.shape);
-      box = q.box ∙ ap₂ (λ (x : Option (List Span)) (g : List ℕ). box_more x (start_of g ps)) p.box grid
-          ∙ box_more-append a.store.box (start_of a.store.shape.grid os) (start_of a.store.shape.grid ps)
-          ∙ ap (box_more a.store.box) (sym (flat_map-append (declared_cells a.store.shape.grid) os ps));
-      contractors = q.contractors ∙ ap (λ (xs : List Constraint). xs ++ ds) p.contractors ∙ append_assoc (map constraint_of a.contractors) cs ds;
-      waiting = q.waiting ∙ ap (λ (xs : List Bool). xs ++ replicate (length ds) true) p.waiting ∙ append_assoc a.waiting (replicate (length cs) true) (replicate (length ds) true)
-          ∙ ap (λ (xs : List Bool). a.waiting ++ xs) (replicate-append-replicate (length cs) (length ds) true ∙ ap (λ (n : ℕ). replicate n true) (sym (length-append cs ds)));
-    }
-
--- additions leave the grid as it was
-pub added-grid : (os : List Owner) (cs : List Constraint) (a b : NetState AnyCtc) → IsAdded os cs a b → b.store.shape.grid ≡ a.store.shape.grid
-added-grid os cs a b p = ap (λ (s : Shape). s.grid) p.shape ∙ (owners-extend os a.store.shape).grid
-
--- further cells, as the net adds them
-pub added-owner : (o : Owner) (old new : NetState AnyCtc) → new ≡ record old { store = state_with old.store o } → IsAdded (o ∷ []) [] old new
-added-owner o old new e = record {
-  shape = ap (λ (n : NetState AnyCtc). n.store.shape) e;
-  box = ap (λ (n : NetState AnyCtc). n.store.box) e ∙ ap (box_more old.store.box) (sym (append-nil (declared_cells old.store.shape.grid o)));
-  contractors = ap (λ (n : NetState AnyCtc). map constraint_of n.contractors) e ∙ sym (append-nil (map constraint_of old.contractors));
-  waiting = ap (λ (n : NetState AnyCtc). n.waiting) e ∙ sym (append-nil old.waiting);
-}
-
--- a further contractor, as the net adds it
-pub added-contractor : (c : AnyCtc) (old new : NetState AnyCtc) → new ≡ record old { contractors = old.contractors ++ c ∷ []; waiting = old.waiting ++ true ∷ [] } → IsAdded [] (constraint_of c ∷ []) old new
-added-contractor c old new e = record {
-  shape = ap (λ (n : NetState AnyCtc). n.store.shape) e;
-  box = ap (λ (n : NetState AnyCtc). n.store.box) e ∙ sym (box_more-none old.store.box);
-  contractors = ap (λ (n : NetState AnyCtc). map constraint_of n.contractors) e ∙ map-append constraint_of old.contractors (c ∷ []);
-  waiting = ap (λ (n : NetState AnyCtc). n.waiting) e;
-}
-
--- one more of a row of contractors
-pub row-more : (f : ℕ → Constraint) (i : ℕ) (a b c : NetState AnyCtc) → IsAdded [] (each_below (λ i. f i ∷ []) i) a b → IsAdded [] (f i ∷ []) b c → IsAdded [] (each_below (λ i. f i ∷ []) (i + 1)) a c
-row-more f i a b c p q =
-    let next : suc i ≡ i + 1 = omega arith in
-    subst (λ (n : ℕ). IsAdded [] (each_below (λ i. f i ∷ []) n) a c) next (added-then [] [] (each_below (λ i. f i ∷ []) i) (f i ∷ []) a b c p q)
-
--- how many contractors a row makes, and how many cells they read
-pub row-few : (f : ℕ → Constraint) (i : ℕ) (a b : NetState AnyCtc) → IsAdded [] (each_below (λ i. f i ∷ []) i) a b → length b.contractors ≡ length a.contractors + i
-row-few f i a b p =
-    let e = ap length p.contractors in
-    omega (arith, e, length-append (map constraint_of a.contractors) (each_below (λ i. f i ∷ []) i), each-length f i, length-map a.contractors constraint_of, length-map b.contractors constraint_of)
-
-pub row-reads : (f : ℕ → Constraint) (m : ℕ) → ((grid : List ℕ) (i : ℕ) → reads_of grid (f i) ≡ m) → (i : ℕ) (a b : NetState AnyCtc) → IsAdded [] (each_below (λ i. f i ∷ []) i) a b
-    → reads_in b.store.shape.grid (map constraint_of b.contractors) ≡ reads_in a.store.shape.grid (map constraint_of a.contractors) + m * i
-row-reads f m h i a b p =
-    let grid = a.store.shape.grid in
-    ap₂ reads_in (added-grid [] (each_below (λ i. f i ∷ []) i) a b p) p.contractors ∙ sum_by-append (reads_of grid) (map constraint_of a.contractors) (each_below (λ i. f i ∷ []) i)
-    ∙ ap (λ (n : ℕ). reads_in grid (map constraint_of a.contractors) + n) (each-reads grid f m (h grid) i)
-
--- cells alone leave the contractors as they were
-pub none-few : (os : List Owner) (a b : NetState AnyCtc) → IsAdded os [] a b → length b.contractors ≡ length a.contractors
-none-few os a b p = let e = ap length (p.contractors ∙ append-nil (map constraint_of a.contractors)) in omega (arith, e, length-map a.contractors constraint_of, length-map b.contractors constraint_of)
-
-pub none-reads : (os : List Owner) (a b : NetState AnyCtc) → IsAdded os [] a b → reads_in b.store.shape.grid (map constraint_of b.contractors) ≡ reads_in a.store.shape.grid (map constraint_of a.contractors)
-none-reads os a b p = ap₂ reads_in (added-grid os [] a b p) (p.contractors ∙ append-nil (map constraint_of a.contractors))
-
--- ---- the room that a record of a kind asks for
-
-module _ (grid : List ℕ) (before : List Item) (item : Item) (k : ℕ) (slices : k + 1 ≡ length grid) where
-  pub signal-few : (name : List ℕ) (range : Span) (n : ℕ) → item ≡ Signal name range → n + length (constraints_of grid before item) ≤ 4000000000 → n + k ≤ 4000000000
-  signal-few name range n e few =
-      let made : n + length (constraints_of grid before (Signal name range)) ≤ 4000000000 = subst (λ (r : Item). n + length (constraints_of grid before r) ≤ 4000000000) e few in
-      omega (arith, made, slices, each-length (λ i. SliceOf (signals_in before) i) (length grid - 1))
-
-  pub signal-room : (name : List ℕ) (range : Span) (n : ℕ) → item ≡ Signal name range → n + reads_in grid (constraints_of grid before item) ≤ 20000000 → n + 3 * k ≤ 20000000
-  signal-room name range n e room =
-      let made : n + reads_in grid (constraints_of grid before (Signal name range)) ≤ 20000000 = subst (λ (r : Item). n + reads_in grid (constraints_of grid before r) ≤ 20000000) e room in
-      omega (arith, made, slices, each-reads grid (λ i. SliceOf (signals_in before) i) 3 (λ i. refl) (length grid - 1))
-
-  pub deriv-few : (x rate : SignalId) (n : ℕ) → item ≡ Deriv x rate → n + length (constraints_of grid before item) ≤ 4000000000 → n + k ≤ 4000000000
-  deriv-few x rate n e few =
-      let made : n + length (constraints_of grid before (Deriv x rate)) ≤ 4000000000 = subst (λ (r : Item). n + length (constraints_of grid before r) ≤ 4000000000) e few in
-      omega (arith, made, slices, each-length (λ i. DerivOf x.0 rate.0 i) (length grid - 1))
-
-  pub deriv-room : (x rate : SignalId) (n : ℕ) → item ≡ Deriv x rate → n + reads_in grid (constraints_of grid before item) ≤ 20000000 → n + 4 * k ≤ 20000000
-  deriv-room x rate n e room =
-      let made : n + reads_in grid (constraints_of grid before (Deriv x rate)) ≤ 20000000 = subst (λ (r : Item). n + reads_in grid (constraints_of grid before r) ≤ 20000000) e room in
-      omega (arith, made, slices, each-reads grid (λ i. DerivOf x.0 rate.0 i) 4 (λ i. refl) (length grid - 1))
+use Rattle.mission_net.proofs.Counts.{cells-count, signals-count, variables-count, signals-made, variables-made}
+use Rattle.mission_net.proofs.Holding.{satisfies-in-range}
+use Rattle.mission_net.proofs.Fitting.{formula-count, record-of}
+use Rattle.mission_net.proofs.Reading.{start-append, constraints-append, constraints-snoc, records-reads, records-count, right-at, right-first}
+use Rattle.mission_net.proofs.Enclosing.{AreSound}
+use Rattle.mission_net.proofs.Additions.{added-none, added-then, more-low}
 
 -- ---- the net of the records so far, and what was added to it
 
@@ -146,13 +46,15 @@ added-holds grid before r old new holds added =
           (subst (λ (d : List Span). IsBelowBox (box_more old.store.box (start_of grid (made before r))) (Some d)) (sym starts) (more-low old.store.box (start grid before) (start_of grid (made before r)) holds.below));
     }
 
-pub record IsBuiltTo (grid : List ℕ) (items : List Item) (first i : ℕ) (begun net : NetState AnyCtc) : Type 0 where
+pub record IsBuiltTo (grid : List ℕ) (items : List Item) (first i : ℕ) (begun net : NetState AnyCtc) (table : Table) : Type 0 where
+  pub known : IsTableOf table (take i items)
   pub holds : IsNetOf grid (take i items) net
   pub added : IsAdded (owners_from (take first items) (drop first (take i items))) (constraints_from grid (take first items) (drop first (take i items))) begun net
 
-pub built-none : (grid : List ℕ) (items : List Item) (first : ℕ) (net : NetState AnyCtc) → IsNetOf grid (take first items) net → IsBuiltTo grid items first first net net
-built-none grid items first net holds =
+pub built-none : (grid : List ℕ) (items : List Item) (first : ℕ) (net : NetState AnyCtc) (table : Table) → IsTableOf table (take first items) → IsNetOf grid (take first items) net → IsBuiltTo grid items first first net net table
+built-none grid items first net table known holds =
     let none : drop first (take first items) ≡ [] = ap (λ (n : ℕ). drop first (take n items)) (sym (add-zero first)) ∙ drop-take first 0 items in record {
+      known = known;
       holds = holds;
       added = subst (λ (l : List Item). IsAdded (owners_from (take first items) l) (constraints_from grid (take first items) l) net net) (sym none)
           (added-none net);
@@ -161,9 +63,9 @@ built-none grid items first net holds =
 pub first-part : (first i : ℕ) (items : List Item) → first ≤ i → i ≤ length items → take first items ++ drop first (take i items) ≡ take i items
 first-part first i items order inside = ap (λ (l : List Item). l ++ drop first (take i items)) (sym (take-take first i items order)) ∙ take-append-drop first (take i items)
 
-pub built-more : (grid : List ℕ) (items : List Item) (first i : ℕ) (x : Item) (begun old new : NetState AnyCtc) → first ≤ i → i < length items → take (i + 1) items ≡ take i items ++ x ∷ [] → IsBuiltTo grid items first i begun old
-    → IsAdded (made (take i items) x) (constraints_of old.store.shape.grid (take i items) x) old new → IsBuiltTo grid items first (i + 1) begun new
-built-more grid items first i x begun old new order inside longer built added =
+pub built-more : (grid : List ℕ) (items : List Item) (first i : ℕ) (x : Item) (begun old new : NetState AnyCtc) (was table : Table) → first ≤ i → i < length items → take (i + 1) items ≡ take i items ++ x ∷ [] → IsBuiltTo grid items first i begun old was → IsTableOf table (take i items ++ x ∷ [])
+    → IsAdded (made (take i items) x) (constraints_of old.store.shape.grid (take i items) x) old new → IsBuiltTo grid items first (i + 1) begun new table
+built-more grid items first i x begun old new was table order inside longer built known added =
     let same : old.store.shape.grid ≡ grid = ap (λ (s : Shape). s.grid) built.holds.shape ∙ shape-grid grid (take i items) in
     let here : IsAdded (made (take i items) x) (constraints_of grid (take i items) x) old new = subst (λ (g : List ℕ). IsAdded (made (take i items) x) (constraints_of g (take i items) x) old new) same added in
     let from = take first items in
@@ -175,6 +77,7 @@ built-more grid items first i x begun old new order inside longer built added =
     (append-nil (constraints_of grid (from ++ some) x) ∙ ap (λ (l : List Item). constraints_of grid l x) before) in
     let os : owners_from from (some ++ x ∷ []) ≡ owners_from from some ++ made (take i items) x =
     owners-append some (x ∷ []) from ∙ ap (λ (l : List Owner). owners_from from some ++ l) (append-nil (made (from ++ some) x) ∙ ap (λ (l : List Item). made l x) before) in record {
+      known = subst (IsTableOf table) (sym longer) known;
       holds = subst (λ (l : List Item). IsNetOf grid l new) (sym longer) (added-holds grid (take i items) x old new built.holds here);
       added = subst (λ (l : List Item). IsAdded (owners_from from l) (constraints_from grid from l) begun new) (sym part)
           (subst (λ (l : List Owner). IsAdded l (constraints_from grid from (some ++ x ∷ [])) begun new) (sym os)
@@ -184,11 +87,60 @@ built-more grid items first i x begun old new order inside longer built added =
 
 -- ---- the room that the next record asks of the net
 
-module _ (m : Mission) (is : IsMission m) (i : ℕ) (x : Item) (net : NetState AnyCtc) (longer : take (i + 1) m.items ≡ take i m.items ++ x ∷ []) (holds : IsNetOf m.cuts (take i m.items) net) where
+-- what right records take, bind and time
+taken : (version end : ℕ) (before : List Item) (r : Item) → signals_in before ≤ 64 → IsRight version end before r → IsTaken before r
+taken version end before (item.Deriv x rate) few right = let some = right.0 in omega (arith, some, few)
+taken version end before (item.Ping x y first last beacon near far) few right = (right.0.0, right.0.1, right.1.0, right.3)
+taken version end before r few right = tt
+
+bindable : (version end : ℕ) (before : List Item) (r : Item) → IsRight version end before r → IsBindable r
+bindable version end before (item.Each formula ls) right = (right.printable.nodes, formula-count before formula ls right)
+bindable version end before (item.Single formula ls) right = (right.0.printable.nodes, formula-count before formula ls right.0)
+bindable version end before r right = tt
+
+marked : (version end : ℕ) (before : List Item) (r : Item) → IsRight version end before r → HasBeacon before r
+marked version end before (item.Ping x y first last beacon near far) right = right.3
+marked version end before r right = tt
+
+timed : (version end : ℕ) (before : List Item) (r : Item) → IsRight version end before r → IsTimed before r
+timed version end before (item.Eval x t z) right = named-below before t (right.1.0 0 t (omega arith))
+timed version end before r right = tt
+
+All-bounded : (xs : List Span) → All IsRange xs → All (IsBounded 500000000) xs
+All-bounded xs all k d l = (all k d l).1
+
+-- the first records of a mission are sound
+pub first-right : (m : Mission) → IsMission m → (last : ℕ) → AreRight m.version m.ticks (take last m.items)
+first-right m is last = right-first m.version m.ticks (take last m.items) (drop last m.items) [] (subst (AreRight m.version m.ticks) (sym (take-append-drop last m.items)) is.right)
+
+pub first-variables : (m : Mission) → IsMission m → (last : ℕ) → variables_in (take last m.items) ≤ 200000
+first-variables m is last = omega (arith, is.few.variables, variables-append (take last m.items) (drop last m.items), ap variables_in (take-append-drop last m.items))
+
+pub first-signals : (m : Mission) → IsMission m → (last : ℕ) → signals_in (take last m.items) ≤ 64
+first-signals m is last = omega (arith, is.few.signals, signals-append (take last m.items) (drop last m.items), ap signals_in (take-append-drop last m.items))
+
+pub first-sound : (m : Mission) → IsMission m → (last : ℕ) → AreSound m.version (last_tick m.cuts) (take last m.items)
+first-sound m is last = record {
+  right = subst (λ (end : ℕ). AreRight m.version end (take last m.items)) (sym is.clock.ends) (first-right m is last);
+  few = first-variables m is last;
+}
+
+-- the next record is right, and taken from the table
+module _ (m : Mission) (is : IsMission m) (i : ℕ) (x : Item) (items : List Item) (same : items ≡ m.items) (at : x ≡ get_or items i x) (inside : i < length m.items) where
+  pub next-longer : take (i + 1) m.items ≡ take i m.items ++ x ∷ []
+  next-longer = take_more m.items i x inside ∙ ap (λ (r : Item). take i m.items ++ r ∷ []) (sym (at ∙ ap (λ (l : List Item). get_or l i x) same))
+
+  pub next-right : IsRight m.version m.ticks (take i m.items) x
+  next-right = subst (IsRight m.version m.ticks (take i m.items)) (sym (at ∙ ap (λ (l : List Item). get_or l i x) same)) (right-at m.version m.ticks m.items [] i x is.right inside)
+
+  pub next-taken : IsTaken (take i items) x
+  next-taken = subst (λ (l : List Item). IsTaken (take i l) x) (sym same) (taken m.version m.ticks (take i m.items) x (first-signals m is i) next-right)
+
+module _ (m : Mission) (is : IsMission m) (i : ℕ) (x : Item) (net : NetState AnyCtc) (longer : take (i + 1) m.items ≡ take i m.items ++ x ∷ []) (right : IsRight m.version m.ticks (take i m.items) x) (holds : IsNetOf m.cuts (take i m.items) net) where
   all-cells : (shape_by m.cuts m.items).cells ≤ 2000000
   all-cells = let e = cells-count m.cuts m.items (omega (arith, is.clock.grid.slices)) in omega (arith, e, is.few.cells)
 
-  pub next-cells : (with_owners net.store.shape (made (take i m.items) x)).cells ≤ 2000000
+  next-cells : (with_owners net.store.shape (made (take i m.items) x)).cells ≤ 2000000
   next-cells =
       let grows : Extends (shape_by m.cuts (take (i + 1) m.items)) (shape_by m.cuts m.items) =
       subst (λ (l : List Item). Extends (shape_by m.cuts (take (i + 1) m.items)) (shape_by m.cuts l)) (take-append-drop (i + 1) m.items) (shape-extends m.cuts (take (i + 1) m.items) (drop (i + 1) m.items)) in
@@ -206,18 +158,9 @@ module _ (m : Mission) (is : IsMission m) (i : ℕ) (x : Item) (net : NetState A
   grid : net.store.shape.grid ≡ m.cuts
   grid = ap (λ (s : Shape). s.grid) holds.shape ∙ shape-grid m.cuts (take i m.items)
 
-  pub next-clock : last_tick net.store.shape.grid ≤ 100000
-  next-clock = omega (arith, ap last_tick grid, is.clock.ends, is.clock.few_ticks)
-
-  pub next-right : IsRight m.ticks (take i m.items) x → IsRight (last_tick net.store.shape.grid) (take i m.items) x
-  next-right right = subst (λ (end : ℕ). IsRight end (take i m.items) x) (sym (ap last_tick grid ∙ is.clock.ends)) right
-
-  pub next-signals : length net.store.shape.signals ≡ signals_in (take i m.items)
-  next-signals = ap (λ (s : Shape). length s.signals) holds.shape ∙ signals-count m.cuts (take i m.items)
-
   few : length net.contractors + length (constraints_of m.cuts (take i m.items) x) ≤ 4000000000
   few =
-      let all = records-count m.cuts m.items [] in
+      let all = records-count m.version m.ticks m.cuts m.items [] is.right in
       omega (
         arith,
         all,
@@ -231,7 +174,7 @@ module _ (m : Mission) (is : IsMission m) (i : ℕ) (x : Item) (net : NetState A
 
   room : reads_in m.cuts (map constraint_of net.contractors) + reads_in m.cuts (constraints_of m.cuts (take i m.items) x) ≤ 20000000
   room =
-      let all = records-reads m.cuts m.items [] in
+      let all = records-reads m.version m.ticks m.cuts m.items [] is.right in
       omega (
         arith,
         all,
@@ -241,11 +184,46 @@ module _ (m : Mission) (is : IsMission m) (i : ℕ) (x : Item) (net : NetState A
         sum_by-append (reads_of m.cuts) (map constraint_of net.contractors) (constraints_of m.cuts (take i m.items) x),
       )
 
-  pub next-few : length net.contractors + length (constraints_of net.store.shape.grid (take i m.items) x) ≤ 4000000000
-  next-few = subst (λ (g : List ℕ). length net.contractors + length (constraints_of g (take i m.items) x) ≤ 4000000000) (sym grid) few
+  signals-so-far : length net.store.shape.signals ≡ signals_in (take i m.items)
+  signals-so-far = ap (λ (s : Shape). length s.signals) holds.shape ∙ signals-count m.cuts (take i m.items)
 
-  pub next-room : reads_in net.store.shape.grid (map constraint_of net.contractors) + reads_in net.store.shape.grid (constraints_of net.store.shape.grid (take i m.items) x) ≤ 20000000
-  next-room = subst (λ (g : List ℕ). reads_in g (map constraint_of net.contractors) + reads_in g (constraints_of g (take i m.items) x) ≤ 20000000) (sym grid) room
+  variables-so-far : length net.store.shape.vars ≡ variables_in (take i m.items)
+  variables-so-far = ap (λ (s : Shape). length s.vars) holds.shape ∙ variables-count m.cuts (take i m.items)
+
+  few-signals : signals_in (take i m.items) + signals_made x ≤ 64
+  few-signals = omega (arith, first-signals m is (i + 1), ap signals_in longer, signals-last (take i m.items) x)
+
+  few-variables : variables_in (take i m.items) + variables_made x ≤ 200000
+  few-variables = omega (arith, first-variables m is (i + 1), ap variables_in longer, variables-last (take i m.items) x)
+
+  -- the record's constraints are of the shape with its cells
+  all-of : All (IsOf (with_owners net.store.shape (made (take i m.items) x))) (constraints_of m.cuts (take i m.items) x)
+  all-of =
+      let s = net.store.shape in
+      let t = with_owners s (made (take i m.items) x) in
+      let same : t.grid ≡ m.cuts = (owners-extend (made (take i m.items) x) s).grid ∙ grid in
+      record-of m.version m.ticks m.cuts t (subst IsGrid (sym same) is.clock.grid) same (take i m.items) (first-right m is i) (first-variables m is i) x
+      (omega (arith, signals-made (take i m.items) x s, signals-so-far)) (omega (arith, variables-made (take i m.items) x s, variables-so-far)) right
+
+  pub next-can : CanBuild (take i m.items) x net
+  next-can =
+      let past = first-right m is i in record {
+        signals = All-bounded (signal_made x) (signal-range m.version m.ticks is.clock.few_ticks (take i m.items) x right);
+        variables = All-bounded (ranges_made (take i m.items) x)
+            (made-ranges m.version m.ticks is.clock.few_ticks (take i m.items) x (signals-right m.version m.ticks is.clock.few_ticks (take i m.items) past) (beacons-right m.version m.ticks is.clock.few_ticks (take i m.items) past) right);
+        cells = next-cells;
+        of = subst (λ (g : List ℕ). All (IsOf (with_owners net.store.shape (made (take i m.items) x))) (constraints_of g (take i m.items) x)) (sym grid) all-of;
+        few = subst (λ (g : List ℕ). length net.contractors + length (constraints_of g (take i m.items) x) ≤ 4000000000) (sym grid) few;
+        reads = subst (λ (g : List ℕ). reads_in g (map constraint_of net.contractors) + reads_in g (constraints_of g (take i m.items) x) ≤ 20000000) (sym grid) room;
+        taken = taken m.version m.ticks (take i m.items) x (first-signals m is i) right;
+        bindable = bindable m.version m.ticks (take i m.items) x right;
+        beacon = marked m.version m.ticks (take i m.items) x right;
+        timed = timed m.version m.ticks (take i m.items) x right;
+        signals_so_far = signals-so-far;
+        variables_so_far = variables-so-far;
+        few_signals = few-signals;
+        few_variables = few-variables;
+      }
 
 -- ---- what satisfies the records and lay in the box before lies in the box
 

@@ -1,8 +1,7 @@
 -- An assignment that satisfies records has a hull that is a common fixpoint of their projections below their start.
-use Rattle.std.proofs.Common.{◌≡◌, ℕ, suc, ◌+◌, ◌-◌, ◌<◌, ◌≤◌, Option, Some, None, List, [], ◌∷◌, ◌++◌, ℤ, ◌+ℤ◌, pos, arith, sym, ap, subst, ◌∙◌, length, All, slice_index, length-append, append_assoc, flat_map}
-use Rattle.std.proofs.lemmas.List.Elements.{All-from_recursion, All-append, All-nil}
-use Rattle.std.proofs.lemmas.List.Sums.{sum_by_push}
-use Rattle.std.proofs.lemmas.Int.{ints}
+use Rattle.std.proofs.Common.{◌≡◌, ℕ, suc, ◌+◌, ◌-◌, ◌<◌, ◌≤◌, Option, Some, None, List, [], ◌∷◌, ◌++◌, ℤ, ◌+ℤ◌, pos, arith, refl, sym, ap, subst, ◌∙◌, length, All, slice_index, append_assoc, flat_map}
+use Rattle.std.specs.Prelude.{IfSome}
+use Rattle.std.proofs.lemmas.List.Elements.{All-from_recursion, All-append, All-cons, All-nil}
 use Rattle.tube_spec.specs.Span.{Span, Holds, point}
 use Rattle.tube_spec.specs.Grid.{IsGrid, last_tick}
 use Rattle.tube_spec.specs.Shape.{Shape, Extends, no_shape, slice_width}
@@ -10,136 +9,160 @@ use Rattle.tube_spec.specs.Box.{IsBelow, IsBelowBox}
 use Rattle.tube_spec.specs.Projection.{IsStable}
 use Rattle.tube_spec.specs.Fixpoint.{IsFixpoint}
 use Rattle.tube_spec.specs.Assignment.{Assignment, value_at, number_of, IsRate}
-use Rattle.tube_spec.specs.Owner.{Owner, with_owner, with_owners, hull_box, AreInRange}
+use Rattle.tube_spec.specs.Owner.{hull_box}
 use Rattle.tube_spec.proofs.Prefixes.{Extends-refl, Extends-trans}
 use Rattle.tube_spec.proofs.Hulls.{hull_box-is, owners-box, owners-below}
 use Rattle.tube_spec.proofs.Ticks.{last-greatest}
 use Rattle.ctc_deriv.specs.BoundLaws.{All-each_below}
-use Rattle.mission_log.specs.declared.item.Item.{Item}
-use Rattle.mission_log.specs.declared.item.Item.TheVariants.{Head, Note, Signal, Variable, Deriv, Bound, At}
-use Rattle.mission_log.specs.Names.{signals_made, signals_in, variables_in}
-use Rattle.mission_log.specs.Valid.{IsRight, AreRightFrom, AreRight}
-use Rattle.mission_net.specs.Constraints.{SliceOf, DerivOf, BoundOf, constraint_projections, IsOf, Satisfies}
-use Rattle.mission_net.specs.Records.{made, owners, owners_from, shape_by, start, constraints_of, constraints_from, constraints, projections, IsSection, IsEnclosure, Encloses, Says, SatisfiesFrom, SatisfiesAll}
-use Rattle.mission_net.proofs.Stable.{constraint-stable}
-use Rattle.mission_net.proofs.Shapes.{shape-snoc, shape-extends, shape-grid}
-use Rattle.mission_net.proofs.Counts.{signals-count, variables-count, more-signals}
+use Rattle.ctc_eval.specs.Evals.{IsEvaluation}
+use Rattle.ctc_delay.specs.Delays.{IsDelay}
+use Rattle.point_cells.specs.Points.{numbers}
+use Rattle.expr_values.specs.Expressions.{comparison_of}
+use Rattle.expr_hc4.specs.Projections.{HoldsAtTick}
+use Rattle.expr_hc4.specs.declared.places.Place.TheVariants.{Once}
+use Rattle.mission_items.specs.declared.item.Item.{Item}
+use Rattle.mission_items.specs.declared.item.Item.TheVariants as item
+use Rattle.mission_items.specs.Made.{rate_in, signals_in, ticks_from, variable_range, variables_in}
+use Rattle.mission_items.specs.Valid.{IsRight, AreRightFrom, AreRight}
+use Rattle.mission_items.proofs.Making.{signals-last, variables-append, variables-last}
+use Rattle.mission_items.proofs.Standing.{named-below}
+use Rattle.mission_net.specs.Constraints.{Constraint, SliceOf, DerivOf, BoundOf, DelayToOf, DelayFromOf, DelayShiftOf, DistOf, ConstellOf, ExprOf, constraint_projections, IsOf, Satisfies}
+use Rattle.mission_net.specs.Records.{owners, shape_by, start, evaluation, marks_in, mark_constraints, ping_constraints, point_at, target_of, constraints_of, constraints_from, constraints, projections, IsSection, IsEnclosure, Encloses, IsAtMark, IsDelayed, IsValueAt, Says, SatisfiesFrom, SatisfiesAll}
+use Rattle.mission_net.proofs.Stable.{constraint-stable, IsWritten}
+use Rattle.mission_net.proofs.Shapes.{shape-extends, shape-grid}
+use Rattle.mission_net.proofs.Counts.{more-signals, more-variables}
+use Rattle.mission_net.proofs.Reading.{right-more}
+use Rattle.mission_net.proofs.Holding.{satisfies-in-range, satisfies-more, variable-in-range, rate-holds, Gains}
+use Rattle.mission_net.proofs.Fitting.{All-one, formula-all, record-of, record-written}
 
 pub All-flat_map : {X Y : Type 0} (P : Y → Type 0) (f : X → List Y) (xs : List X) → All (λ x. All P (f x)) xs → All P (flat_map f xs)
 All-flat_map P f [] h = All-nil P
 All-flat_map P f (x ∷ xs) h = All-append P (f x) (flat_map f xs) (h 0 x (omega arith)) (All-flat_map P f xs (λ k d l. h (suc k) d (omega (arith, l))))
 
--- the declared ranges
-AreInRange-append : (end : ℕ) (a : Assignment) (xs ys : List Owner) (s : Shape) → AreInRange end s a xs → AreInRange end (with_owners s xs) a ys → AreInRange end s a (xs ++ ys)
-AreInRange-append end a [] ys s p q = q
-AreInRange-append end a (o ∷ xs) ys s p q = (p.0, AreInRange-append end a xs ys (with_owner s o) p.1 q)
+-- records that are right, of which no more than so many variables come
+pub record AreSound (version end : ℕ) (items : List Item) : Type 0 where
+  pub right : AreRight version end items
+  pub few : variables_in items ≤ 200000
 
-at-point : (p q : ℤ) → q ≡ p → Holds (point p) q
-at-point p q e = record { low = omega (arith, ints, e); high = omega (arith, ints, e) }
+-- ---- the constraints of records are of the shape of all records, and written
 
-says-in-range : (end : ℕ) (s : Shape) (a : Assignment) (before : List Item) (r : Item) → signals_in before ≡ length s.signals → variables_in before ≡ length s.vars → Says end a before r → AreInRange end s a (made before r)
-says-in-range end s a before Head signals vars h = tt
-says-in-range end s a before Note signals vars h = tt
-says-in-range end s a before (Signal name range) signals vars h = (subst (λ (n : ℕ). (k : ℕ) → k ≤ end → Holds range (value_at a n k)) signals h, tt)
-says-in-range end s a before (Variable name range) signals vars h = (subst (λ (n : ℕ). Holds range (number_of a n)) vars h, tt)
-says-in-range end s a before (Deriv x rate) signals vars h = tt
-says-in-range end s a before (Bound x first last range) signals vars h = tt
-says-in-range end s a before (At x tick range) signals vars h =
-    let one : variables_in before + 1 ≡ length (s.vars ++ s.cells ∷ []) = omega (arith, vars, length-append s.vars (s.cells ∷ [])) in (
-      subst (λ (n : ℕ). Holds (point (pos tick)) (number_of a n)) vars (at-point (pos tick) (number_of a (variables_in before)) h.0),
-      (subst (λ (v : ℕ). Holds range (number_of a v)) one h.1, tt),
-    )
-
-pub satisfies-in-range : (end : ℕ) (grid : List ℕ) (a : Assignment) (rs before : List Item) → SatisfiesFrom end a before rs → AreInRange end (shape_by grid before) a (owners_from before rs)
-satisfies-in-range end grid a [] before h = tt
-satisfies-in-range end grid a (r ∷ rs) before h =
-    AreInRange-append end a (made before r) (owners_from (before ++ r ∷ []) rs) (shape_by grid before)
-    (says-in-range end (shape_by grid before) a before r (sym (signals-count grid before)) (sym (variables-count grid before)) h.0)
-    (subst (λ (s : Shape). AreInRange end s a (owners_from (before ++ r ∷ []) rs)) (shape-snoc grid before r) (satisfies-in-range end grid a rs (before ++ r ∷ []) h.1))
-
-pub All-one : {X : Type 0} (P : X → Type 0) (x : X) → P x → All P (x ∷ [])
-All-one P x h = All-from_recursion P (x ∷ []) (h, tt)
-
--- ---- the constraints of records are of the shape of all records
-
-module _ (grid : List ℕ) (t : Shape) (same : t.grid ≡ grid) where
-  record-of : (end : ℕ) (before : List Item) (r : Item) → signals_in (before ++ r ∷ []) ≤ length t.signals → IsRight end before r → All (IsOf t) (constraints_of grid before r)
-  record-of end before Head room right = All-nil (IsOf t)
-  record-of end before Note room right = All-nil (IsOf t)
-  record-of end before (Signal name range) room right =
-      let count = sum_by_push signals_made before (Signal name range) in
-      All-each_below (IsOf t) (λ i. SliceOf (signals_in before) i ∷ []) (length grid - 1) (λ i li.
-      All-one (IsOf t) (SliceOf (signals_in before) i) (omega (arith, room, count), omega (arith, li, ap length same)))
-  record-of end before (Variable name range) room right = All-nil (IsOf t)
-  record-of end before (Deriv x rate) room right =
-      let some = right.0 in
-      let other = right.1 in
-      let count = sum_by_push signals_made before (Deriv x rate) in
-      All-each_below (IsOf t) (λ i. DerivOf x.0 rate.0 i ∷ []) (length grid - 1) (λ i li.
-      All-one (IsOf t) (DerivOf x.0 rate.0 i) (omega (arith, some, count, room), omega (arith, other, count, room), omega (arith, li, ap length same)))
-  record-of end before (Bound x first last range) room right =
-      let some = right.0 in All-one (IsOf t) (BoundOf x.0 first last range) (omega (arith, some, room, sum_by_push signals_made before (Bound x first last range)))
-  record-of end before (At x tick range) room right =
-      let some = right.0 in All-one (IsOf t) (BoundOf x.0 tick tick range) (omega (arith, some, room, sum_by_push signals_made before (At x tick range)))
-
-  pub records-of : (end : ℕ) (rs before : List Item) → Extends (shape_by grid (before ++ rs)) t → AreRightFrom end before rs → All (IsOf t) (constraints_from grid before rs)
-  records-of end [] before grows right = All-nil (IsOf t)
-  records-of end (r ∷ rs) before grows right =
+module _ (version end : ℕ) (grid : List ℕ) (t : Shape) (is : IsGrid t.grid) (same : t.grid ≡ grid) where
+  pub records-of : (rs before : List Item) → Extends (shape_by grid (before ++ rs)) t → AreRight version end before → AreRightFrom version end before rs → variables_in (before ++ rs) ≤ 200000 → All (IsOf t) (constraints_from grid before rs)
+  records-of [] before grows past right few = All-nil (IsOf t)
+  records-of (r ∷ rs) before grows past right few =
       let rest : Extends (shape_by grid ((before ++ r ∷ []) ++ rs)) t = subst (λ (l : List Item). Extends (shape_by grid l) t) (sym (append_assoc before (r ∷ []) rs)) grows in
       let here : Extends (shape_by grid (before ++ r ∷ [])) t = Extends-trans _ _ t (shape-extends grid (before ++ r ∷ []) rs) rest in
+      let fewer : variables_in before ≤ 200000 = omega (arith, few, variables-append before (r ∷ rs)) in
       All-append (IsOf t) (constraints_of grid before r) (constraints_from grid (before ++ r ∷ []) rs)
-      (record-of end before r (more-signals grid (before ++ r ∷ []) t here) right.0)
-      (records-of end rs (before ++ r ∷ []) rest right.1)
+      (record-of version end grid t is same before past fewer r (omega (arith, more-signals grid (before ++ r ∷ []) t here, signals-last before r)) (omega (arith, more-variables grid (before ++ r ∷ []) t here, variables-last before r)) right.1)
+      (records-of rs (before ++ r ∷ []) rest (right-more version end before r past right.0 right.1) right.2 (subst (λ (l : List Item). variables_in l ≤ 200000) (sym (append_assoc before (r ∷ []) rs)) few))
+
+  records-written : (rs before : List Item) → AreRight version end before → AreRightFrom version end before rs → variables_in (before ++ rs) ≤ 200000 → All IsWritten (constraints_from grid before rs)
+  records-written [] before past right few = All-nil IsWritten
+  records-written (r ∷ rs) before past right few =
+      let fewer : variables_in before ≤ 200000 = omega (arith, few, variables-append before (r ∷ rs)) in
+      All-append IsWritten (constraints_of grid before r) (constraints_from grid (before ++ r ∷ []) rs)
+      (record-written version end grid t is same before past fewer r right.1)
+      (records-written rs (before ++ r ∷ []) (right-more version end before r past right.0 right.1) right.2 (subst (λ (l : List Item). variables_in l ≤ 200000) (sym (append_assoc before (r ∷ []) rs)) few))
 
 -- ---- and what satisfies the records satisfies their constraints
 
-module _ (end : ℕ) (grid : List ℕ) (a : Assignment) (t : Shape) (is : IsGrid t.grid) (upto : (i : ℕ) → i < length t.grid → slice_index t.grid i ≤ end) where
+module _ (version end : ℕ) (grid : List ℕ) (a : Assignment) (t : Shape) (is : IsGrid t.grid) (same : t.grid ≡ grid) (ends : last_tick t.grid ≡ end) where
+  upto : (i : ℕ) → i < length t.grid → slice_index t.grid i ≤ end
+  upto = subst (λ (n : ℕ). (i : ℕ) → i < length t.grid → slice_index t.grid i ≤ n) ends (last-greatest t.grid is.rising)
+
   rate-over : (x v : ℕ → ℤ) → ((k : ℕ) → k < end → x (k + 1) ≡ x k +ℤ v k) → (i : ℕ) → i + 1 < length t.grid → IsRate x v (slice_index t.grid i) (slice_width t i)
   rate-over x v says i li k lk =
       let from = slice_index t.grid i in
       let e : from + suc k ≡ (from + k) + 1 = omega arith in
       ap x e ∙ says (from + k) (omega (arith, lk, upto (i + 1) li, is.rising i li))
 
-  record-says : (before : List Item) (r : Item) → t.grid ≡ grid → Says end a before r → All (Satisfies t a) (constraints_of grid before r)
-  record-says before Head same says = All-nil (Satisfies t a)
-  record-says before Note same says = All-nil (Satisfies t a)
-  record-says before (Signal name range) same says =
+  gains-over : (x : ℕ) (o : Option ℕ) → IfSome o (Gains end a x) → IfSome o (λ v. (k : ℕ) → k < last_tick t.grid → value_at a x (k + 1) ≡ value_at a x k +ℤ value_at a v k)
+  gains-over x None h = tt
+  gains-over x (Some v) h = subst (λ (n : ℕ). (k : ℕ) → k < n → value_at a x (k + 1) ≡ value_at a x k +ℤ value_at a v k) (sym ends) h
+
+  evaluation-says : (before : List Item) (x u z : ℕ) (declared : Span) → SatisfiesFrom end a [] before → IsValueAt end a x u z → Holds declared (number_of a u) → IsEvaluation t a x (rate_in before x) u z declared
+  evaluation-says before x u z declared past says inside = record {
+    tick = says.tick;
+    time = says.time;
+    on_clock = omega (arith, says.on_clock, ends);
+    in_range = subst (Holds declared) says.time inside;
+    value = says.value;
+    gains = gains-over x (rate_in before x) (rate-holds end a before x (rate_in before x) past refl);
+  }
+
+  delay-says : (x y tau : ℕ) → IsDelayed end a x y tau → IsDelay t a x y tau
+  delay-says x y tau says = (says.ticks, says.delay, omega (arith, says.on_clock, ends), λ k from to. says.later k from (omega (arith, to, ends)))
+
+  mark-says : (before : List Item) (beacon : Option ℕ) → IsAtMark a before beacon → All (Satisfies t a) (mark_constraints before beacon)
+  mark-says before (Some beacon) says = All-nil (Satisfies t a)
+  mark-says before None says = All-one (Satisfies t a) (ConstellOf (point_at (variables_in before + 3)) (marks_in before)) says
+
+  ping-says : (before : List Item) (x y first last : ℕ) (near far : ℤ) (beacon : Option ℕ) → SatisfiesFrom end a [] before → Holds (ticks_from first last) (number_of a (variables_in before)) → IsValueAt end a x (variables_in before) (variables_in before + 1)
+      → IsValueAt end a y (variables_in before) (variables_in before + 2) → Satisfies t a (DistOf (point_at (variables_in before + 1)) (target_of before beacon) near far) → IsAtMark a before beacon
+      → All (Satisfies t a) (ping_constraints before x y first last near far beacon)
+  ping-says before x y first last near far beacon past inside one other distance mark =
+      let v = variables_in before in
+      let third : Constraint = DistOf (point_at (v + 1)) (target_of before beacon) near far in
+      let second = evaluation before y v (v + 2) (ticks_from first last) in
+      All-cons (Satisfies t a) (evaluation before x v (v + 1) (ticks_from first last)) (second ∷ third ∷ mark_constraints before beacon) (evaluation-says before x v (v + 1) (ticks_from first last) past one inside)
+      (All-cons (Satisfies t a) second (third ∷ mark_constraints before beacon) (evaluation-says before y v (v + 2) (ticks_from first last) past other inside)
+      (All-cons (Satisfies t a) third (mark_constraints before beacon) distance (mark-says before beacon mark)))
+
+  record-says : (before : List Item) (r : Item) → IsRight version end before r → SatisfiesFrom end a [] before → Says end a before r → All (Satisfies t a) (constraints_of grid before r)
+  record-says before (item.Signal name range) good past says =
       All-each_below (Satisfies t a) (λ i. SliceOf (signals_in before) i ∷ []) (length grid - 1) (λ i li. All-one (Satisfies t a) (SliceOf (signals_in before) i) tt)
-  record-says before (Variable name range) same says = All-nil (Satisfies t a)
-  record-says before (Deriv x rate) same says =
+  record-says before (item.Deriv x rate) good past says =
       All-each_below (Satisfies t a) (λ i. DerivOf x.0 rate.0 i ∷ []) (length grid - 1) (λ i li.
-      All-one (Satisfies t a) (DerivOf x.0 rate.0 i) (rate-over (value_at a x.0) (value_at a rate.0) says i (omega (arith, li, ap length same))))
-  record-says before (Bound x first last range) same says = All-one (Satisfies t a) (BoundOf x.0 first last range) says
-  record-says before (At x tick range) same says =
-      let here : Holds range (value_at a x.0 tick) = subst (Holds range) says.2 says.1 in
-      All-one (Satisfies t a) (BoundOf x.0 tick tick range)
-      (λ k from to. let e : tick ≡ k = omega (arith, from, to) in subst (λ (n : ℕ). Holds range (value_at a x.0 n)) e here)
+      All-one (Satisfies t a) (DerivOf x.0 rate.0 i) (rate-over (value_at a x.0) (value_at a rate.0) says.means i (omega (arith, li, ap length same))))
+  record-says before (item.Bound x first last range) good past says = All-one (Satisfies t a) (BoundOf x.0 first last range) says.means
+  record-says before (item.At x tick range) good past says =
+      let v = variables_in before in
+      All-one (Satisfies t a) (evaluation before x.0 v (v + 1) (point (pos tick))) (evaluation-says before x.0 v (v + 1) (point (pos tick)) past says.means says.made.0)
+  record-says before (item.Eval x u z) good past says =
+      let named = good.1.0 in
+      let time = named-below before u (named 0 u (omega arith)) in
+      let declared = variable_range before u.0 in
+      All-one (Satisfies t a) (evaluation before x.0 u.0 z.0 declared) (evaluation-says before x.0 u.0 z.0 declared past says.means (variable-in-range end a before past u.0 time))
+  record-says before (item.Delay x y tau) good past says =
+      let delay = delay-says x.0 y.0 tau.0 says.means in
+      All-from_recursion (Satisfies t a) (DelayToOf x.0 y.0 tau.0 ∷ DelayFromOf x.0 y.0 tau.0 ∷ DelayShiftOf x.0 y.0 tau.0 ∷ []) (delay, (delay, (delay, tt)))
+  record-says before (item.Dist2 near far p b) good past says = All-one (Satisfies t a) (DistOf (numbers p) (numbers b) near far) says.means
+  record-says before (item.Dist3 near far p b) good past says = All-one (Satisfies t a) (DistOf (numbers p) (numbers b) near far) says.means
+  record-says before (item.Constell p) good past says = All-one (Satisfies t a) (ConstellOf (numbers p) (marks_in before)) says.means
+  record-says before (item.Ping x y first last beacon near far) good past says =
+      let means = says.means in ping-says before x.0 y.0 first last near far beacon past says.made.0 means.0 means.1 means.2 means.3
+  record-says before (item.Each formula ls) good past says =
+      let holds = subst (λ (n : ℕ). (k : ℕ) → k ≤ n → HoldsAtTick a ls (comparison_of formula) k) (sym ends) says.means in
+      formula-all (Satisfies t a) grid ls (comparison_of formula) (λ i l. holds) (λ i l. holds) (omega (arith, is.slices, ap length same))
+  record-says before (item.Single formula ls) good past says = All-one (Satisfies t a) (ExprOf Once ls (comparison_of formula)) says.means
+  record-says before r good past says = All-nil (Satisfies t a)
 
-  pub records-say : (rs before : List Item) → t.grid ≡ grid → SatisfiesFrom end a before rs → All (Satisfies t a) (constraints_from grid before rs)
-  records-say [] before same says = All-nil (Satisfies t a)
-  records-say (r ∷ rs) before same says =
+  pub records-say : (rs before : List Item) → AreRightFrom version end before rs → SatisfiesFrom end a [] before → SatisfiesFrom end a before rs → All (Satisfies t a) (constraints_from grid before rs)
+  records-say [] before right past says = All-nil (Satisfies t a)
+  records-say (r ∷ rs) before right past says =
       All-append (Satisfies t a) (constraints_of grid before r) (constraints_from grid (before ++ r ∷ []) rs)
-      (record-says before r same says.0) (records-say rs (before ++ r ∷ []) same says.1)
+      (record-says before r right.1 past says.0) (records-say rs (before ++ r ∷ []) right.2 (satisfies-more end a before r past says.0) says.1)
 
-All-both : {X : Type 0} (P Q R : X → Type 0) (xs : List X) → ((x : X) → P x → Q x → R x) → All P xs → All Q xs → All R xs
-All-both P Q R xs f h g k d l = f _ (h k d l) (g k d l)
+All-three : {X : Type 0} (P Q R S : X → Type 0) (xs : List X) → ((x : X) → P x → Q x → R x → S x) → All P xs → All Q xs → All R xs → All S xs
+All-three P Q R S xs f h g i k d l = f _ (h k d l) (g k d l) (i k d l)
 
-module _ (grid : List ℕ) (is : IsGrid grid) (items : List Item) (end : ℕ) (right : AreRight end items) (a : Assignment) (says : SatisfiesAll grid a items) where
+module _ (grid : List ℕ) (is : IsGrid grid) (items : List Item) (version : ℕ) (sound : AreSound version (last_tick grid) items) (a : Assignment) (says : SatisfiesAll grid a items) where
   -- the hull of an assignment that satisfies records is a common fixpoint of their projections
   pub hull-fixpoint : IsFixpoint (projections grid items) (hull_box grid (owners items) a)
   hull-fixpoint =
       let t = shape_by grid items in
+      let end = last_tick grid in
       let same = shape-grid grid items in
       let grid_t : IsGrid t.grid = subst IsGrid (sym same) is in
-      let upto : (i : ℕ) → i < length t.grid → slice_index t.grid i ≤ last_tick grid =
-      subst (λ (g : List ℕ). (i : ℕ) → i < length g → slice_index g i ≤ last_tick grid) (sym same) (last-greatest grid is.rising) in
       let whole = hull_box-is grid (owners items) a (omega (arith, is.slices)) in record {
         box = owners-box (last_tick grid) (owners items) (no_shape grid) a (last-greatest grid is.rising);
         stable = All-flat_map (IsStable (hull_box grid (owners items) a)) (constraint_projections t) (constraints grid items)
-            (All-both (IsOf t) (Satisfies t a) (λ c. All (IsStable (hull_box grid (owners items) a)) (constraint_projections t c)) (constraints grid items)
-            (λ c of met. constraint-stable t a (hull_box grid (owners items) a) grid_t whole.hull c of met)
-            (records-of grid t same end items [] (Extends-refl t) right)
-            (records-say (last_tick grid) grid a t grid_t upto items [] same says));
+            (All-three (IsOf t) IsWritten (Satisfies t a) (λ c. All (IsStable (hull_box grid (owners items) a)) (constraint_projections t c)) (constraints grid items)
+            (λ c of written met. constraint-stable t a (hull_box grid (owners items) a) grid_t whole.hull c of written met)
+            (records-of version end grid t grid_t same items [] (Extends-refl t) tt sound.right sound.few)
+            (records-written version end grid t grid_t same items [] tt sound.right sound.few)
+            (records-say version end grid a t grid_t same (ap last_tick same) items [] sound.right tt says));
       }
 
   -- and it lies below the declared ranges
@@ -156,5 +179,5 @@ section-encloses grid items None greatest = record { below = tt; keeps = greates
 section-encloses grid items (Some r) greatest = record { below = greatest.1; keeps = greatest.2 }
 
 -- a box that lost no common fixpoint holds every assignment that satisfies the records
-pub enclosure-encloses : (grid : List ℕ) (items : List Item) (box : Option (List Span)) (end : ℕ) → IsGrid grid → AreRight end items → IsEnclosure grid items box → Encloses grid items box
-enclosure-encloses grid items box end is right keeps a says = hull-enclosed grid is items end right a says box keeps
+pub enclosure-encloses : (grid : List ℕ) (items : List Item) (box : Option (List Span)) (version : ℕ) → IsGrid grid → AreSound version (last_tick grid) items → IsEnclosure grid items box → Encloses grid items box
+enclosure-encloses grid items box version is sound keeps a says = hull-enclosed grid is items version sound a says box keeps

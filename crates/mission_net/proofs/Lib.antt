@@ -1,7 +1,15 @@
 pub mod Stable
 pub mod Shapes
 pub mod Counts
-pub mod Enclosing
+pub mod Beacons
 pub mod Reading
+pub mod Holding
+pub mod Fitting
+pub mod Enclosing
+pub mod Tabling
+pub mod Additions
+pub mod ByTable
+pub mod Steps
 pub mod Building
 pub mod Sections
+pub mod Examples

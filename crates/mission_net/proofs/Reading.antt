@@ -1,33 +1,42 @@
 -- Records and further records: shapes, starts, constraints, and how much room they take.
-use Rattle.std.proofs.Common.{◌≡◌, ℕ, zero, suc, ◌+◌, ◌-◌, ◌*◌, ◌<◌, ◌≤◌, List, [], ◌∷◌, ◌++◌, arith, refl, sym, ap, subst, ◌∙◌, length, take, get_or, flat_map, length-append, append-nil, append_assoc, map, ap₂, Option, Some, None, slice_index}
-use Rattle.std.proofs.Math.Nat.{add-mul}
+use Rattle.std.proofs.Common.{◌≡◌, ℕ, zero, suc, ◌+◌, ◌-◌, ◌*◌, ◌<◌, ◌≤◌, List, [], ◌∷◌, ◌++◌, arith, refl, sym, ap, subst, ◌∙◌, length, take, get_or, flat_map, length-append, append-nil, append_assoc, map, ap₂, Option, Some, None, slice_index, ℤ, pos, max}
+use Rattle.std.specs.Prelude.{is_some}
+use Rattle.std.proofs.Math.Nat.{mul-le-mul_left}
+use Rattle.std.proofs.lemmas.List.FromFn.{length-range_with_len}
 use Rattle.std.proofs.Math.ListN.{length-replicate}
 use Rattle.std.proofs.lemmas.List.Concat.{flat_map-append}
 use Rattle.std.proofs.lemmas.List.{length-map}
 use Rattle.std.specs.List.{concat}
 use Rattle.std.proofs.lemmas.List.Sums.{sum_by-append, sum_by-cons, sum_by_push}
-use Rattle.tube_spec.specs.Span.{Span}
+use Rattle.tube_spec.specs.Span.{Span, point}
 use Rattle.tube_spec.specs.Shape.{Shape, IsShape, no_shape, with_signal, with_var}
 use Rattle.tube_spec.specs.Owner.{Owner, SignalIn, VariableIn, declared_cells, start_of, with_owners}
 use Rattle.tube_spec.proofs.Prefixes.{IsShape-signal, IsShape-var}
-use Rattle.tube_spec.proofs.Hulls.{owners-extend, with_owners-append}
-use Rattle.mission_log.specs.declared.item.Item.{Item}
-use Rattle.mission_log.specs.declared.item.Item.TheVariants.{Head, Note, Signal, Variable, Deriv, Bound, At}
-use Rattle.mission_log.specs.Names.{signals_made, signals_in, variables_made, variables_in}
-use Rattle.mission_log.specs.Room.{cells_of, foot_of, feet_from}
-use Rattle.mission_log.specs.Valid.{IsRight, AreRightFrom}
+use Rattle.tube_spec.proofs.Hulls.{owners-extend}
+use Rattle.ctc_eval.specs.declared.near.Near.{Near}
+use Rattle.expr_values.specs.Expressions.{Comparison, comparison_of}
+use Rattle.expr_hc4.specs.declared.places.Leaf.{Leaf}
+use Rattle.expr_hc4.specs.declared.places.Place.TheVariants.{Gate, Once}
+use Rattle.expr_hc4.specs.Places.{first_uses, leaf_cell}
+use Rattle.mission_items.specs.declared.item.Item.{Item}
+use Rattle.mission_items.specs.declared.item.Item.TheVariants as item
+use Rattle.mission_items.specs.Made.{beacons_in, rate_in, signals_in, ticks_from, variable_range, variables_in}
+use Rattle.mission_items.specs.Room.{evaluated, evaluation_foot, feet_from, mark_foot, foot_of, slices_near, touching}
+use Rattle.mission_items.specs.Valid.{IsInPlace, IsMark, IsRight, AreRight, AreRightFrom}
 use Rattle.ctc_deriv.specs.Bounds.{each_below}
 use Rattle.ctc_eval.specs.Near.{near_of, places_of}
 use Rattle.ctc_eval.specs.Evals.{cells_near, rate_scope}
 use Rattle.ctc_delay.specs.Places.{place_count, signal_cells}
 use Rattle.ctc_delay.specs.DelayLaws.{length-each_place}
-use Rattle.ctc_dist.specs.Points.{cells_of as point_cells}
-use Rattle.mission_net.specs.Constraints.{Constraint, SliceOf, DerivOf, BoundOf, EvalOf, DelayToOf, DelayFromOf, DelayShiftOf, DistOf, ConstellOf, constraint_scope, reads_near, rate_reads, reads_of, reads_in}
+use Rattle.point_cells.specs.Points.{numbers, cells_of as point_cells}
+use Rattle.tube_store.specs.declared.VarId.{VarId}
+use Rattle.mission_net.specs.Constraints.{Constraint, SliceOf, DerivOf, BoundOf, EvalOf, DelayToOf, DelayFromOf, DelayShiftOf, DistOf, ConstellOf, ExprOf, constraint_scope, reads_near, rate_reads, reads_of, reads_in}
 use Rattle.mission_net.specs.declared.AnyCtc.{AnyCtc}
 use Rattle.mission_net.specs.Contractors.{constraint_of, any_scope}
 use Rattle.ctc_network.specs.Nets.{entries_of}
-use Rattle.mission_net.specs.Records.{made, owners, owners_from, shape_by, start, constraints_of, constraints_from, constraints}
+use Rattle.mission_net.specs.Records.{owners, owners_from, shape_by, start, marks_in, point_at, formula_at, formula_constraints, ping_constraints, constraints_of, constraints_from, constraints}
 use Rattle.mission_net.proofs.Shapes.{owners-append}
+use Rattle.mission_net.proofs.Beacons.{concat-points, length-marks_in, mark-at, marks-below}
 
 pub start-append : (grid : List ℕ) (before rs : List Item) → start grid (before ++ rs) ≡ start grid before ++ start_of grid (owners_from before rs)
 start-append grid before rs = ap (start_of grid) (owners-append before rs []) ∙ flat_map-append (declared_cells grid) (owners before) (owners_from before rs)
@@ -42,16 +51,29 @@ pub constraints-snoc : (grid : List ℕ) (before : List Item) (r : Item) → con
 constraints-snoc grid before r = constraints-append grid before (r ∷ []) [] ∙ ap (λ (l : List Constraint). constraints grid before ++ l) (append-nil (constraints_of grid before r))
 
 -- what a record says is right, by its place
-pub right-at : (end : ℕ) (xs before : List Item) (i : ℕ) (d : Item) → AreRightFrom end before xs → i < length xs → IsRight end (before ++ take i xs) (get_or xs i d)
-right-at end [] before i d right l = absurd (omega (arith, l))
-right-at end (r ∷ xs) before zero d right l = subst (λ (b : List Item). IsRight end b r) (sym (append-nil before)) right.0
-right-at end (r ∷ xs) before (suc i) d right l =
-    subst (λ (b : List Item). IsRight end b (get_or xs i d)) (append_assoc before (r ∷ []) (take i xs)) (right-at end xs (before ++ r ∷ []) i d right.1 (omega (arith, l)))
+pub right-at : (version end : ℕ) (xs before : List Item) (i : ℕ) (d : Item) → AreRightFrom version end before xs → i < length xs → IsRight version end (before ++ take i xs) (get_or xs i d)
+right-at version end [] before i d right l = absurd (omega (arith, l))
+right-at version end (r ∷ xs) before zero d right l = subst (λ (b : List Item). IsRight version end b r) (sym (append-nil before)) right.1
+right-at version end (r ∷ xs) before (suc i) d right l =
+    subst (λ (b : List Item). IsRight version end b (get_or xs i d)) (append_assoc before (r ∷ []) (take i xs)) (right-at version end xs (before ++ r ∷ []) i d right.2 (omega (arith, l)))
 
 -- the first records are right
-pub right-first : (end : ℕ) (xs ys before : List Item) → AreRightFrom end before (xs ++ ys) → AreRightFrom end before xs
-right-first end [] ys before right = tt
-right-first end (r ∷ xs) ys before right = (right.0, right-first end xs ys (before ++ r ∷ []) right.1)
+pub right-first : (version end : ℕ) (xs ys before : List Item) → AreRightFrom version end before (xs ++ ys) → AreRightFrom version end before xs
+right-first version end [] ys before right = tt
+right-first version end (r ∷ xs) ys before right = (right.0, right.1, right-first version end xs ys (before ++ r ∷ []) right.2)
+
+-- one more record
+right-snoc : (version end : ℕ) (xs before : List Item) (r : Item) → AreRightFrom version end before xs → IsInPlace (before ++ xs) r → IsRight version end (before ++ xs) r → AreRightFrom version end before (xs ++ r ∷ [])
+right-snoc version end [] before r past place right = (subst (λ (b : List Item). IsInPlace b r) (append-nil before) place, subst (λ (b : List Item). IsRight version end b r) (append-nil before) right, tt)
+right-snoc version end (x ∷ xs) before r past place right = (
+  past.0,
+  past.1,
+  right-snoc version end xs (before ++ x ∷ []) r past.2 (subst (λ (b : List Item). IsInPlace b r) (sym (append_assoc before (x ∷ []) xs)) place)
+      (subst (λ (b : List Item). IsRight version end b r) (sym (append_assoc before (x ∷ []) xs)) right),
+)
+
+pub right-more : (version end : ℕ) (before : List Item) (r : Item) → AreRight version end before → IsInPlace before r → IsRight version end before r → AreRight version end (before ++ r ∷ [])
+right-more version end before r past place right = right-snoc version end before [] r past place right
 
 -- how many cells owners take
 cells-after : (os : List Owner) (s : Shape) → (with_owners s os).cells ≡ s.cells + length (flat_map (declared_cells s.grid) os)
@@ -71,35 +93,6 @@ shape-more (VariableIn range ∷ os) s is few = shape-more os (with_var s) (IsSh
 pub shape-is : (grid : List ℕ) (items : List Item) → IsShape (no_shape grid) → (shape_by grid items).cells ≤ 2000000 → IsShape (shape_by grid items)
 shape-is grid items is few = shape-more (owners items) (no_shape grid) is few
 
--- ---- the cells of the shape are those that the log counts
-
--- the cells that one record takes
-cells-of_one : (before : List Item) (r : Item) (s : Shape) → 1 ≤ length s.grid → (with_owners s (made before r)).cells ≡ s.cells + (signals_made r * (2 * (length s.grid - 1) + 1) + variables_made r)
-cells-of_one before Head s some = omega arith
-cells-of_one before Note s some = omega arith
-cells-of_one before (Signal name range) s some = omega (arith, some)
-cells-of_one before (Variable name range) s some = omega arith
-cells-of_one before (Deriv x rate) s some = omega arith
-cells-of_one before (Bound x first last range) s some = omega arith
-cells-of_one before (At x tick range) s some = omega arith
-
-cells-step : (a b m n k c x y : ℕ) → a ≡ c + (m * k + x) → b ≡ a + (n * k + y) → b ≡ c + ((m + n) * k + (x + y))
-cells-step a b m n k c x y p q = omega (arith, p, q, add-mul m n k)
-
-cells-from : (rs before : List Item) (s : Shape) → 1 ≤ length s.grid → (with_owners s (owners_from before rs)).cells ≡ s.cells + (signals_in rs * (2 * (length s.grid - 1) + 1) + variables_in rs)
-cells-from [] before s some = omega arith
-cells-from (r ∷ rs) before s some =
-    let t = with_owners s (made before r) in
-    let more = owners_from (before ++ r ∷ []) rs in
-    let same : t.grid ≡ s.grid = (owners-extend (made before r) s).grid in
-    let rest = subst (λ (g : List ℕ). (with_owners t more).cells ≡ t.cells + (signals_in rs * (2 * (length g - 1) + 1) + variables_in rs)) same (cells-from rs (before ++ r ∷ []) t (omega (arith, some, ap length same))) in
-    ap (λ (u : Shape). u.cells) (with_owners-append (made before r) more s)
-    ∙ cells-step t.cells (with_owners t more).cells (signals_made r) (signals_in rs) (2 * (length s.grid - 1) + 1) s.cells (variables_made r) (variables_in rs) (cells-of_one before r s some) rest
-    ∙ ap₂ (λ (m n : ℕ). s.cells + (m * (2 * (length s.grid - 1) + 1) + n)) (sym (sum_by-cons signals_made r rs)) (sym (sum_by-cons variables_made r rs))
-
-pub cells-count : (grid : List ℕ) (items : List Item) → 1 ≤ length grid → (shape_by grid items).cells ≡ cells_of grid (signals_in items) (variables_in items)
-cells-count grid items some = cells-from items [] (no_shape grid) some ∙ omega arith
-
 -- ---- how many cells constraints read, and how many constraints there are
 
 pub each-reads : (grid : List ℕ) (f : ℕ → Constraint) (m : ℕ) → ((i : ℕ) → reads_of grid (f i) ≡ m) → (n : ℕ) → reads_in grid (each_below (λ i. f i ∷ []) n) ≡ m * n
@@ -115,32 +108,96 @@ pub record IsSmall (grid : List ℕ) (cs : List Constraint) (foot : ℕ) : Type 
   pub reads : reads_in grid cs ≤ foot
   pub few : length cs ≤ foot + 1
 
-record-small : (grid : List ℕ) (before : List Item) (r : Item) → IsSmall grid (constraints_of grid before r) (foot_of grid before r)
-record-small grid before Head = record { reads = omega arith; few = omega arith }
-record-small grid before Note = record { reads = omega arith; few = omega arith }
-record-small grid before (Signal name range) =
+pub small-one : (grid : List ℕ) (c : Constraint) (foot : ℕ) → reads_of grid c ≤ foot → IsSmall grid (c ∷ []) foot
+small-one grid c foot h = record { reads = omega (arith, h, sum_by-cons (reads_of grid) c []); few = omega arith }
+
+pub small-both : (grid : List ℕ) (cs ds : List Constraint) (m n : ℕ) → 1 ≤ m → IsSmall grid cs m → IsSmall grid ds n → length cs + length ds ≤ m + n + 1 → IsSmall grid (cs ++ ds) (m + n)
+small-both grid cs ds m n some p q few = record { reads = omega (arith, p.reads, q.reads, sum_by-append (reads_of grid) cs ds); few = omega (arith, few, length-append cs ds) }
+
+-- an evaluation reads at most what is counted for its slices
+near-few : (n : Option Near) → length (places_of n) ≤ 2 * slices_near n + 1
+near-few None = omega arith
+near-few (Some n) = omega (arith, length-range_with_len (2 * n.first) (2 * (n.last + 1 - n.first) + 1))
+
+evaluation-few : (grid : List ℕ) (rate : Option ℕ) (declared : Span) → 2 + (reads_near grid declared + rate_reads grid rate declared) ≤ evaluation_foot (is_some rate) (touching grid declared)
+evaluation-few grid None declared = omega (arith, near-few (near_of grid declared))
+evaluation-few grid (Some rate) declared = omega (arith, near-few (near_of grid declared))
+
+-- a formula at all gates and envelopes
+formula-reads : (grid : List ℕ) (ls : List Leaf) (c : Comparison) (n : ℕ) → reads_in grid (each_below (formula_at ls c) n) ≡ length (first_uses ls) * (2 * n)
+formula-reads grid ls c zero = omega arith
+formula-reads grid ls c (suc n) = sum_by-append (reads_of grid) (each_below (formula_at ls c) n) (formula_at ls c n) ∙ omega (arith, formula-reads grid ls c n)
+
+pub formula-count : (ls : List Leaf) (c : Comparison) (n : ℕ) → length (each_below (formula_at ls c) n) ≡ 2 * n
+formula-count ls c zero = refl
+formula-count ls c (suc n) = length-append (each_below (formula_at ls c) n) (formula_at ls c n) ∙ omega (arith, formula-count ls c n)
+
+formula-small : (grid : List ℕ) (ls : List Leaf) (c : Comparison) → IsSmall grid (formula_constraints grid ls c) ((2 * (length grid - 1) + 1) * max 1 (length (first_uses ls)))
+formula-small grid ls c =
+    let n = length grid - 1 in
+    let q = length (first_uses ls) in
+    let last : Constraint = ExprOf (Gate n) ls c in
+    let more : (2 * n + 1) * q ≤ (2 * n + 1) * max 1 q = mul-le-mul_left (2 * n + 1) (omega arith) in
+    let some : (2 * n + 1) * 1 ≤ (2 * n + 1) * max 1 q = mul-le-mul_left (2 * n + 1) (omega arith) in record {
+      reads = omega (arith, more, sum_by_push (reads_of grid) (each_below (formula_at ls c) n) last, formula-reads grid ls c n);
+      few = omega (arith, some, length-append (each_below (formula_at ls c) n) (last ∷ []), formula-count ls c n);
+    }
+
+-- a point and the beacons before
+constell-few : (before : List Item) (p : List ℕ) → length p ≡ 2 → length p + length (concat (marks_in before)) ≤ 2 + 2 * beacons_in before
+constell-few before p size = omega (arith, size, concat-points (variables_in before) (marks_in before) (marks-below before), length-marks_in before)
+
+numbers-length : (vs : List VarId) → length (numbers vs) ≡ length vs
+numbers-length vs = length-map vs (λ (v : VarId). v.0)
+
+-- what a ping reads
+ping-small : (grid : List ℕ) (before : List Item) (x y first last : ℕ) (near far : ℤ) (beacon : Option ℕ) → IsMark before beacon
+    → IsSmall grid (ping_constraints before x y first last near far beacon) (evaluated grid before x (ticks_from first last) + evaluated grid before y (ticks_from first last) + 4 + mark_foot before beacon)
+ping-small grid before x y first last near far (Some beacon) mark =
+    let at = mark-at before beacon mark in
+    let one = evaluation-few grid (rate_in before x) (ticks_from first last) in
+    let other = evaluation-few grid (rate_in before y) (ticks_from first last) in record { reads = omega (arith, one, other, at.size); few = omega arith }
+ping-small grid before x y first last near far None mark =
+    let one = evaluation-few grid (rate_in before x) (ticks_from first last) in
+    let other = evaluation-few grid (rate_in before y) (ticks_from first last) in
+    let all = constell-few before (point_at (variables_in before + 3)) refl in record { reads = omega (arith, one, other, all); few = omega arith }
+
+record-small : (version end : ℕ) (grid : List ℕ) (before : List Item) (r : Item) → IsRight version end before r → IsSmall grid (constraints_of grid before r) (foot_of grid before r)
+record-small version end grid before (item.Signal name range) right =
     let all = each-reads grid (λ i. SliceOf (signals_in before) i) 3 (λ i. refl) (length grid - 1) in
     let count = each-length (λ i. SliceOf (signals_in before) i) (length grid - 1) in record { reads = omega (arith, all); few = omega (arith, count) }
-record-small grid before (Variable name range) = record { reads = omega arith; few = omega arith }
-record-small grid before (Deriv x rate) =
+record-small version end grid before (item.Deriv x rate) right =
     let all = each-reads grid (λ i. DerivOf x.0 rate.0 i) 4 (λ i. refl) (length grid - 1) in
     let count = each-length (λ i. DerivOf x.0 rate.0 i) (length grid - 1) in record { reads = omega (arith, all); few = omega (arith, count) }
-record-small grid before (Bound x first last range) = record { reads = omega arith; few = omega arith }
-record-small grid before (At x tick range) = record { reads = omega arith; few = omega arith }
+record-small version end grid before (item.Bound x first last range) right = record { reads = omega arith; few = omega arith }
+record-small version end grid before (item.At x tick range) right = small-one grid _ _ (evaluation-few grid (rate_in before x.0) (point (pos tick)))
+record-small version end grid before (item.Eval x t z) right = small-one grid _ _ (evaluation-few grid (rate_in before x.0) (variable_range before t.0))
+record-small version end grid before (item.Delay x y tau) right = record { reads = omega arith; few = omega arith }
+record-small version end grid before (item.Dist2 near far p b) right =
+    let one = right.2 in
+    let other = right.3 in small-one grid _ _ (omega (arith, one, other, numbers-length p, numbers-length b))
+record-small version end grid before (item.Dist3 near far p b) right =
+    let one = right.2 in
+    let other = right.3 in small-one grid _ _ (omega (arith, one, other, numbers-length p, numbers-length b))
+record-small version end grid before (item.Constell p) right = small-one grid _ _ (constell-few before (numbers p) (numbers-length p ∙ right.2))
+record-small version end grid before (item.Ping x y first last beacon near far) right = ping-small grid before x.0 y.0 first last near far beacon right.3
+record-small version end grid before (item.Each formula ls) right = formula-small grid ls (comparison_of formula)
+record-small version end grid before (item.Single formula ls) right = small-one grid (ExprOf Once ls (comparison_of formula)) (max 1 (length (first_uses ls))) (omega arith)
+record-small version end grid before r right = record { reads = omega arith; few = omega arith }
 
 -- the same of any number of records
-pub records-reads : (grid : List ℕ) (rs before : List Item) → reads_in grid (constraints_from grid before rs) ≤ feet_from grid before rs
-records-reads grid [] before = omega arith
-records-reads grid (r ∷ rs) before =
-    let one = record-small grid before r in
-    let rest = records-reads grid rs (before ++ r ∷ []) in
+pub records-reads : (version end : ℕ) (grid : List ℕ) (rs before : List Item) → AreRightFrom version end before rs → reads_in grid (constraints_from grid before rs) ≤ feet_from grid before rs
+records-reads version end grid [] before right = omega arith
+records-reads version end grid (r ∷ rs) before right =
+    let one = record-small version end grid before r right.1 in
+    let rest = records-reads version end grid rs (before ++ r ∷ []) right.2 in
     omega (arith, one.reads, rest, sum_by-append (reads_of grid) (constraints_of grid before r) (constraints_from grid (before ++ r ∷ []) rs))
 
-pub records-count : (grid : List ℕ) (rs before : List Item) → length (constraints_from grid before rs) ≤ feet_from grid before rs + length rs
-records-count grid [] before = omega arith
-records-count grid (r ∷ rs) before =
-    let one = record-small grid before r in
-    let rest = records-count grid rs (before ++ r ∷ []) in
+pub records-count : (version end : ℕ) (grid : List ℕ) (rs before : List Item) → AreRightFrom version end before rs → length (constraints_from grid before rs) ≤ feet_from grid before rs + length rs
+records-count version end grid [] before right = omega arith
+records-count version end grid (r ∷ rs) before right =
+    let one = record-small version end grid before r right.1 in
+    let rest = records-count version end grid rs (before ++ r ∷ []) right.2 in
     omega (arith, one.few, rest, length-append (constraints_of grid before r) (constraints_from grid (before ++ r ∷ []) rs))
 
 -- ---- what a constraint reads
@@ -184,6 +241,7 @@ scope-length s (DelayShiftOf x y tau) =
     )
 scope-length s (DistOf p b near far) =
     omega (arith, length-append (point_cells s p) (point_cells s b), length-map p (slice_index s.vars), length-map b (slice_index s.vars))
+scope-length s (ExprOf place leaves comparison) = length-map (first_uses leaves) (leaf_cell s place)
 scope-length s (ConstellOf p marks) =
     omega (arith, length-append (point_cells s p) (concat (map (point_cells s) marks)), length-map p (slice_index s.vars), concat-length s marks)
 

@@ -1,26 +1,29 @@
 -- Sections: what settling the net of further records gives.
-use Rattle.std.proofs.Common.{◌≡◌, ℕ, zero, suc, ◌≤◌, Option, Some, None, List, [], ◌∷◌, ◌++◌, arith, refl, sym, ap, ap₂, subst, ◌∙◌, map, flat_map, take, drop, IsSome, IsSomeAnd, slice_get, option_map, length, ◌+◌, ◌*◌, ◌<◌}
+use Rattle.std.proofs.Common.{◌≡◌, ℕ, zero, suc, ◌≤◌, Option, Some, None, List, [], ◌∷◌, ◌++◌, arith, refl, sym, ap, ap₂, subst, ◌∙◌, map, flat_map, take, drop, IsSome, IsNone, IsSomeAnd, IfSome, slice_get, sum_by, option_map, length, ◌+◌, ◌*◌, ◌<◌}
 use Rattle.std.proofs.lemmas.List.Folds.{flat_map-map}
 use Rattle.std.proofs.lemmas.List.Elements.{All-nil}
+use Rattle.std.proofs.lemmas.List.Sums.{sum_by-cons}
 use Rattle.std.proofs.lemmas.List.{take-append-drop}
-use Rattle.tube_spec.specs.Span.{Span}
-use Rattle.tube_spec.specs.Grid.{IsGrid}
+use Rattle.tube_spec.specs.Span.{Span, IsBounded, width_of}
+use Rattle.tube_spec.specs.Grid.{IsGrid, last_tick}
 use Rattle.tube_spec.specs.Shape.{Shape, IsShape, Extends, no_shape}
-use Rattle.tube_spec.specs.Box.{IsBelowBox, box_more, measure_of}
+use Rattle.tube_spec.specs.Box.{IsBox, AreBounded, IsBelowBox, box_more, measure_of}
 use Rattle.tube_spec.specs.Projection.{Projection}
 use Rattle.tube_spec.specs.Fixpoint.{IsFixpoint, IsGreatest, KeepsFixpoints}
 use Rattle.tube_spec.specs.Owner.{start_of}
+use Rattle.tube_spec.proofs.Widths.{width-le}
 use Rattle.tube_spec.proofs.Boxes.{IsBelow-refl, IsBelowBox-trans}
 use Rattle.tube_spec.proofs.Prefixes.{Extends-refl}
-use Rattle.tube_store.specs.State.{State}
+use Rattle.tube_store.specs.State.{State, IsStore}
 use Rattle.ctc_network.specs.Nets.{NetState}
 use Rattle.ctc_network.specs.Settling.{SettlesAs, StillNarrows}
 use Rattle.ctc_network.specs.declared.answers.Settled.{Settled}
 use Rattle.ctc_network.specs.declared.answers.Settled.TheVariants.{Fixpoint, Empty, Spent}
 use Rattle.ctc_network.proofs.Schedules.{section-keeps}
-use Rattle.mission_log.specs.declared.item.Item.{Item}
-use Rattle.mission_log.specs.declared.item.Mission.{Mission}
-use Rattle.mission_log.specs.Valid.{AreRight, IsMission}
+use Rattle.mission_items.specs.declared.item.Item.{Item}
+use Rattle.mission_items.specs.declared.mission.Mission.{Mission}
+use Rattle.mission_items.specs.Valid.{AreRight, IsMission}
+use Rattle.mission_items.proofs.Making.{variables-append}
 use Rattle.mission_net.specs.Constraints.{Constraint, constraint_projections, constraint_scope, IsOf}
 use Rattle.mission_net.specs.ConstraintLaws.{constraint-reads_only, constraint-in_store, constraint-more, constraint-same_projections}
 use Rattle.mission_net.specs.Records.{owners_from, shape_by, start, constraints_from, constraints, projections, IsSection, IsEnclosure, Encloses}
@@ -28,11 +31,19 @@ use Rattle.mission_net.specs.declared.AnyCtc.{AnyCtc}
 use Rattle.mission_net.specs.Contractors.{constraint_of, any_projections}
 use Rattle.mission_net.specs.Building.{IsNetOf, IsAdded, IsSectionAs, IsSpentAs}
 use Rattle.mission_net.proofs.Shapes.{shape-extends, shape-grid}
-use Rattle.mission_net.proofs.Enclosing.{records-of, section-encloses, enclosure-encloses}
-use Rattle.mission_net.proofs.Reading.{start-append, start-length, constraints-append, right-first, shape-is, cells-count}
-use Rattle.mission_net.proofs.Building.{more-low}
+use Rattle.mission_net.proofs.Enclosing.{records-of, section-encloses, enclosure-encloses, AreSound}
+use Rattle.mission_net.proofs.Counts.{cells-count}
+use Rattle.mission_net.proofs.Reading.{start-append, start-length, constraints-append, right-first, shape-is}
+use Rattle.mission_net.proofs.Additions.{more-low}
 
-module _ (grid : List ℕ) (before more : List Item) (none : IsShape (no_shape grid)) (few : (shape_by grid before).cells ≤ 2000000) (end : ℕ) (right : AreRight end (before ++ more)) where
+-- the first of sound records are
+pub sound-first : (version end : ℕ) (xs ys : List Item) → AreSound version end (xs ++ ys) → AreSound version end xs
+sound-first version end xs ys sound = record { right = right-first version end xs ys [] sound.right; few = omega (arith, sound.few, variables-append xs ys) }
+
+module _ (grid : List ℕ) (before more : List Item) (none : IsShape (no_shape grid)) (few : (shape_by grid before).cells ≤ 2000000) (version : ℕ) (is : IsGrid grid) (sound : AreSound version (last_tick grid) (before ++ more)) where
+  past : AreSound version (last_tick grid) before
+  past = sound-first version (last_tick grid) before more sound
+
   s : Shape
   s = shape_by grid before
 
@@ -54,7 +65,7 @@ module _ (grid : List ℕ) (before more : List Item) (none : IsShape (no_shape g
         (λ c s. constraint-reads_only c s) (λ c s xs ys same fits. fits) (λ c s a b low fits. fits) (λ c s b shape fits. constraint-in_store c s shape fits)
         (λ c s t b more grows fits. constraint-more c s t grows fits) (λ c s t b grows fits. constraint-same_projections c s t grows fits)
         (shape_by grid before) (shape_by grid (before ++ more)) (constraints grid before) (constraints_from grid before more) (start grid before) (start_of grid (owners_from before more))
-        (shape-is grid before none few) (shape-extends grid before more) (start-length grid before) (records-of grid (shape_by grid before) (shape-grid grid before) end before [] (Extends-refl (shape_by grid before)) (right-first end before more [] right))
+        (shape-is grid before none few) (shape-extends grid before more) (start-length grid before) (records-of version (last_tick grid) grid (shape_by grid before) (subst IsGrid (sym (shape-grid grid before)) is) (shape-grid grid before) before [] (Extends-refl (shape_by grid before)) tt past.right past.few)
         b1 b2 e1.below e1.keeps
         (subst (λ (cs : List Constraint). KeepsFixpoints (flat_map (constraint_projections (shape_by grid (before ++ more))) cs) (box_more b1 (start_of grid (owners_from before more))) b2) all keeps)));
   }
@@ -78,21 +89,21 @@ still-some projections cs None k h = absurd h.2
 still-some projections cs (Some xs) k h = refl
 
 -- what the answer of settling says of the section
-pub settled-section : (grid : List ℕ) (before more : List Item) → IsShape (no_shape grid) → (shape_by grid before).cells ≤ 2000000 → (end : ℕ) → AreRight end (before ++ more) → (b1 : Option (List Span)) (budget : ℕ) (net : NetState AnyCtc) (new : State) (answer : Settled)
+pub settled-section : (grid : List ℕ) (before more : List Item) → IsShape (no_shape grid) → (shape_by grid before).cells ≤ 2000000 → (version : ℕ) → IsGrid grid → AreSound version (last_tick grid) (before ++ more) → (b1 : Option (List Span)) (budget : ℕ) (net : NetState AnyCtc) (new : State) (answer : Settled)
     → IsEnclosure grid before b1 → IsNetOf grid (before ++ more) net → net.store.box ≡ box_more b1 (start_of grid (owners_from before more)) → SettlesAs (λ c. any_projections c net.store.shape) net.contractors budget net.store new answer → IsSectionAs grid (before ++ more) new.box answer
-settled-section grid before more none few end right b1 budget net new Fixpoint e1 holds box settles = (
+settled-section grid before more none few version is sound b1 budget net new Fixpoint e1 holds box settles = (
   settles.0,
-  records-section grid before more none few end right b1 new.box e1 (subst (λ (b : Option (List Span)). IsGreatest (projections grid (before ++ more)) b new.box) box
+  records-section grid before more none few version is sound b1 new.box e1 (subst (λ (b : Option (List Span)). IsGreatest (projections grid (before ++ more)) b new.box) box
       (subst (λ (ps : List Projection). IsGreatest ps net.store.box new.box) (net-projections grid (before ++ more) net holds) settles.1)),
 )
-settled-section grid before more none few end right b1 budget net new Empty e1 holds box settles = (
+settled-section grid before more none few version is sound b1 budget net new Empty e1 holds box settles = (
   settles.0,
-  records-section grid before more none few end right b1 new.box e1 (subst (λ (b : Option (List Span)). IsGreatest (projections grid (before ++ more)) b new.box) box
+  records-section grid before more none few version is sound b1 new.box e1 (subst (λ (b : Option (List Span)). IsGreatest (projections grid (before ++ more)) b new.box) box
       (subst (λ (ps : List Projection). IsGreatest ps net.store.box new.box) (net-projections grid (before ++ more) net holds) settles.1)),
 )
-settled-section grid before more none few end right b1 budget net new (Spent id) e1 holds box settles = (
+settled-section grid before more none few version is sound b1 budget net new (Spent id) e1 holds box settles = (
   still-some (λ c. any_projections c net.store.shape) net.contractors new.box id.0 settles.2,
-  records-keep grid before more none few end right b1 new.box e1 (subst (IsBelowBox new.box) box settles.0.below) (subst (λ (b : Option (List Span)). KeepsFixpoints (projections grid (before ++ more)) b new.box) box
+  records-keep grid before more none few version is sound b1 new.box e1 (subst (IsBelowBox new.box) box settles.0.below) (subst (λ (b : Option (List Span)). KeepsFixpoints (projections grid (before ++ more)) b new.box) box
       (subst (λ (ps : List Projection). KeepsFixpoints ps net.store.box new.box) (net-projections grid (before ++ more) net holds) settles.0.keeps)),
 )
 
@@ -108,19 +119,19 @@ split items (suc first) zero h = absurd (omega (arith, h))
 split [] (suc first) (suc last) h = refl
 split (x ∷ items) (suc first) (suc last) h = ap (λ (l : List Item). x ∷ l) (split items first last (omega (arith, h)))
 
-module _ (grid : List ℕ) (items : List Item) (first last : ℕ) (order : first ≤ last) (none : IsShape (no_shape grid)) (few : (shape_by grid items).cells ≤ 2000000) (end : ℕ) (right : AreRight end items)
+module _ (grid : List ℕ) (items : List Item) (first last : ℕ) (order : first ≤ last) (none : IsShape (no_shape grid)) (few : (shape_by grid items).cells ≤ 2000000) (version : ℕ) (is : IsGrid grid) (sound : AreSound version (last_tick grid) items)
     (begun built new : NetState AnyCtc) (budget : ℕ) (answer : Settled) (e1 : IsEnclosure grid (take first items) begun.store.box) (holds : IsNetOf grid (take last items) built)
     (extended : built.store.box ≡ box_more begun.store.box (start_of grid (owners_from (take first items) (drop first (take last items))))) (contractors : new.contractors ≡ built.contractors) (shape : new.store.shape ≡ built.store.shape)
     (settles : SettlesAs (λ c. any_projections c built.store.shape) built.contractors budget built.store new.store answer) where
-  pub right-last : AreRight end (take last items)
-  right-last = right-first end (take last items) (drop last items) [] (subst (AreRight end) (sym (take-append-drop last items)) right)
+  sound-last : AreSound version (last_tick grid) (take last items)
+  sound-last = sound-first version (last_tick grid) (take last items) (drop last items) (subst (AreSound version (last_tick grid)) (sym (take-append-drop last items)) sound)
 
   pub section-is : IsSectionAs grid (take last items) new.store.box answer
   section-is =
       let parts = split items first last order in
       let grows : Extends (shape_by grid (take first items)) (shape_by grid items) = subst (λ (l : List Item). Extends (shape_by grid (take first items)) (shape_by grid l)) (take-append-drop first items) (shape-extends grid (take first items) (drop first items)) in
       subst (λ (l : List Item). IsSectionAs grid l new.store.box answer) parts
-      (settled-section grid (take first items) (drop first (take last items)) none (omega (arith, few, grows.cells)) end (subst (AreRight end) (sym parts) right-last) begun.store.box budget built new.store answer e1
+      (settled-section grid (take first items) (drop first (take last items)) none (omega (arith, few, grows.cells)) version is (subst (AreSound version (last_tick grid)) (sym parts) sound-last) begun.store.box budget built new.store answer e1
       (subst (λ (l : List Item). IsNetOf grid l built) (sym parts) holds) extended settles)
 
   pub section-holds : IsNetOf grid (take last items) new
@@ -130,8 +141,8 @@ module _ (grid : List ℕ) (items : List Item) (first last : ℕ) (order : first
     below = (section-as-encloses grid (take last items) new.store.box answer section-is).below;
   }
 
-  pub section-covers : IsGrid grid → Encloses grid (take last items) new.store.box
-  section-covers is = enclosure-encloses grid (take last items) new.store.box end is right-last (section-as-encloses grid (take last items) new.store.box answer section-is)
+  pub section-covers : Encloses grid (take last items) new.store.box
+  section-covers = enclosure-encloses grid (take last items) new.store.box version is sound-last (section-as-encloses grid (take last items) new.store.box answer section-is)
 
 -- the clock and the room of a mission
 pub mission-grid : (m : Mission) → IsMission m → IsShape (no_shape m.cuts)
@@ -146,11 +157,24 @@ mission-grid m is = record {
 pub mission-cells : (m : Mission) → IsMission m → (shape_by m.cuts m.items).cells ≤ 2000000
 mission-cells m is = let e = cells-count m.cuts m.items (omega (arith, is.clock.grid.slices)) in omega (arith, e, is.few.cells)
 
+pub mission-sound : (m : Mission) → IsMission m → AreSound m.version (last_tick m.cuts) m.items
+mission-sound m is = record { right = subst (λ (end : ℕ). AreRight m.version end m.items) (sym is.clock.ends) is.right; few = is.few.variables }
+
 -- what building leaves of the box, over the mission's grid
 pub built-box : (grid : List ℕ) (items : List Item) (first : ℕ) (more : List Item) (cs : List Constraint) (begun built : NetState AnyCtc) → IsNetOf grid (take first items) begun
     → IsAdded (owners_from (take first items) more) cs begun built → built.store.box ≡ box_more begun.store.box (start_of grid (owners_from (take first items) more))
 built-box grid items first more cs begun built holds added =
     added.box ∙ ap (λ (g : List ℕ). box_more begun.store.box (start_of g (owners_from (take first items) more))) (ap (λ (s : Shape). s.grid) holds.shape ∙ shape-grid grid (take first items))
+
+more-empty : (b : Option (List Span)) (more : List Span) → IsNone b → IsNone (box_more b more)
+more-empty None more h = refl
+more-empty (Some xs) more h = absurd (cc h)
+
+-- an empty box stays empty
+pub still-empty : (m : Mission) (first : ℕ) (more : List Item) (cs : List Constraint) (begun built : NetState AnyCtc) → IsNetOf m.cuts (take first m.items) begun
+    → IsAdded (owners_from (take first m.items) more) cs begun built → IsNone begun.store.box → IsNone built.store.box
+still-empty m first more cs begun built holds added none =
+    subst IsNone (sym (built-box m.cuts m.items first more cs begun built holds added)) (more-empty begun.store.box (start_of m.cuts (owners_from (take first m.items) more)) none)
 
 -- the cause of a spent answer, in the words of the records
 get-map : {X Y : Type 0} (f : X → Y) (xs : List X) (k : ℕ) (x : X) → slice_get xs k ≡ Some x → slice_get (map f xs) k ≡ Some (f x)
@@ -185,5 +209,21 @@ net-none grid net shape box contractors = record {
 }
 
 -- once a section is empty, each later one is
-pub section-after-empty : (grid : List ℕ) (before more : List Item) → IsShape (no_shape grid) → (shape_by grid before).cells ≤ 2000000 → (end : ℕ) → AreRight end (before ++ more) → IsEnclosure grid before None → IsSection grid (before ++ more) None
-section-after-empty grid before more none few end right e1 = records-section grid before more none few end right None None e1 (λ q fix below. below)
+pub section-after-empty : (grid : List ℕ) (before more : List Item) → IsShape (no_shape grid) → (shape_by grid before).cells ≤ 2000000 → (version : ℕ) → IsGrid grid → AreSound version (last_tick grid) (before ++ more) → IsEnclosure grid before None → IsSection grid (before ++ more) None
+section-after-empty grid before more none few version is sound e1 = records-section grid before more none few version is sound None None e1 (λ q fix below. below)
+
+-- ---- how large a measure can be
+
+width-small : (s : Span) → IsBounded 500000000 s → width_of s ≤ 1000000000
+width-small s h = width-le s _ h
+
+widths-small : (xs : List Span) → AreBounded xs → sum_by width_of xs ≤ 1000000000 * length xs
+widths-small [] h = omega arith
+widths-small (x ∷ xs) h = omega (arith, sum_by-cons width_of x xs, width-small x (h 0), widths-small xs (λ k. h (suc k)))
+
+box-small : (box : Option (List Span)) (cells : ℕ) → cells ≤ 2000000 → IfSome box (λ xs. IsBox xs × (length xs ≡ cells)) → IfSome box AreBounded → measure_of box ≤ 2000000000000000
+box-small None cells few is bounded = omega arith
+box-small (Some xs) cells few is bounded = omega (arith, few, is.1, widths-small xs bounded)
+
+pub measure-small : (s : State) → IsStore s → measure_of s.box ≤ 2000000000000000
+measure-small s is = box-small s.box s.shape.cells is.shape.few is.box is.bounded

@@ -3,7 +3,7 @@ use Rattle.std.proofs.Common.{◌≡◌, ℕ, List, [], ◌∷◌, ◌++◌, sym
 use Rattle.tube_spec.specs.Shape.{Extends, no_shape}
 use Rattle.tube_spec.specs.Owner.{Owner, with_owners, shape_of}
 use Rattle.tube_spec.proofs.Hulls.{with_owners-append, owners-extend}
-use Rattle.mission_log.specs.declared.item.Item.{Item}
+use Rattle.mission_items.specs.declared.item.Item.{Item}
 use Rattle.mission_net.specs.Records.{made, owners, owners_from, shape_by}
 
 pub owners-append : (xs ys before : List Item) → owners_from before (xs ++ ys) ≡ owners_from before xs ++ owners_from (before ++ xs) ys

@@ -1,15 +1,21 @@
 -- What a net holds of the records that were built, and what settling makes of it.
-use Rattle.std.specs.Prelude.{◌≡◌, ℕ, List, ◌++◌, Option, Some, true, map, replicate, length, IsSome, IsNone, IsSomeAnd, ◌+◌, ◌≤◌, slice_get}
-use Rattle.tube_spec.specs.Span.{Span}
+use Rattle.std.specs.Prelude.{◌≡◌, ◌<◌, ℕ, List, ◌++◌, Option, Some, true, map, replicate, length, IsSome, IsNone, IsSomeAnd, All, ◌+◌, ◌≤◌, slice_get}
+use Rattle.tube_spec.specs.Span.{Span, IsBounded}
 use Rattle.tube_spec.specs.Box.{IsBelowBox, box_more, measure_of}
 use Rattle.tube_spec.specs.Fixpoint.{IsFixpoint}
 use Rattle.tube_spec.specs.Owner.{Owner, with_owners, start_of}
 use Rattle.ctc_network.specs.Nets.{NetState}
 use Rattle.ctc_network.specs.declared.answers.Settled.{Settled}
 use Rattle.ctc_network.specs.declared.answers.Settled.TheVariants.{Fixpoint, Empty, Spent}
-use Rattle.mission_log.specs.declared.item.Item.{Item}
-use Rattle.mission_net.specs.Constraints.{Constraint, constraint_projections}
-use Rattle.mission_net.specs.Records.{shape_by, start, constraints, IsSection, IsEnclosure}
+use Rattle.expr_tree.specs.Measures.{relation_nodes}
+use Rattle.expr_values.specs.Expressions.{relation_leaves}
+use Rattle.mission_items.specs.declared.item.Item.{Item}
+use Rattle.mission_items.specs.declared.item.Item.TheVariants as item
+use Rattle.mission_items.specs.Made.{ranges_made, signal_made, signals_in, signals_made, variables_in, variables_made}
+use Rattle.mission_items.specs.Valid.{IsMark}
+use Rattle.mission_net.specs.Tables.{IsTaken, Table}
+use Rattle.mission_net.specs.Constraints.{Constraint, constraint_projections, reads_in, IsOf}
+use Rattle.mission_net.specs.Records.{constraints_of, made, shape_by, start, constraints, IsSection, IsEnclosure}
 use Rattle.mission_net.specs.declared.AnyCtc.{AnyCtc}
 use Rattle.mission_net.specs.Contractors.{constraint_of}
 
@@ -25,6 +31,50 @@ pub record IsAdded (os : List Owner) (cs : List Constraint) (old new : NetState 
   pub box : new.store.box ≡ box_more old.store.box (start_of old.store.shape.grid os)
   pub contractors : map constraint_of new.contractors ≡ map constraint_of old.contractors ++ cs
   pub waiting : new.waiting ≡ old.waiting ++ replicate (length cs) true
+
+-- A net takes these contractors: each is of its shape, and neither their numbers nor their read entries run out.
+pub record CanAdd (cs : List Constraint) (net : NetState AnyCtc) : Type 0 where
+  pub of : All (IsOf net.store.shape) cs
+  pub few : length net.contractors + length cs ≤ 4000000000
+  pub reads : reads_in net.store.shape.grid (map constraint_of net.contractors) + reads_in net.store.shape.grid cs ≤ 20000000
+
+-- a table beside a net: it has the ranges of the same variables, and there are at most 64 signals
+pub record IsBeside (t : Table) (net : NetState AnyCtc) : Type 0 where
+  pub signals : length net.store.shape.signals ≤ 64
+  pub variables : length t.variables ≡ length net.store.shape.vars
+
+-- a formula that can be bound: it is small, and has a leaf for each of its names
+abbrev pub IsBindable : Item → Type 0
+IsBindable (item.Each formula leaves) = (relation_nodes formula ≤ 256) × (length leaves ≡ relation_leaves formula)
+IsBindable (item.Single formula leaves) = (relation_nodes formula ≤ 256) × (length leaves ≡ relation_leaves formula)
+IsBindable r = Unit {0}
+
+-- a ping's beacon stands before it
+abbrev pub HasBeacon : List Item → Item → Type 0
+HasBeacon before (item.Ping x y first last beacon near far) = IsMark before beacon
+HasBeacon before r = Unit {0}
+
+-- the time of an evaluation is a variable before it
+abbrev pub IsTimed : List Item → Item → Type 0
+IsTimed before (item.Eval x t z) = t.0 < variables_in before
+IsTimed before r = Unit {0}
+
+-- A net takes the next record: there is room for its cells, whose ranges are within the bound, and for its contractors, which are of the shape with these cells.
+pub record CanBuild (before : List Item) (r : Item) (net : NetState AnyCtc) : Type 0 where
+  pub signals : All (IsBounded 500000000) (signal_made r)
+  pub variables : All (IsBounded 500000000) (ranges_made before r)
+  pub cells : (with_owners net.store.shape (made before r)).cells ≤ 2000000
+  pub of : All (IsOf (with_owners net.store.shape (made before r))) (constraints_of net.store.shape.grid before r)
+  pub few : length net.contractors + length (constraints_of net.store.shape.grid before r) ≤ 4000000000
+  pub reads : reads_in net.store.shape.grid (map constraint_of net.contractors) + reads_in net.store.shape.grid (constraints_of net.store.shape.grid before r) ≤ 20000000
+  pub taken : IsTaken before r
+  pub bindable : IsBindable r
+  pub beacon : HasBeacon before r
+  pub timed : IsTimed before r
+  pub signals_so_far : length net.store.shape.signals ≡ signals_in before
+  pub variables_so_far : length net.store.shape.vars ≡ variables_in before
+  pub few_signals : signals_in before + signals_made r ≤ 64
+  pub few_variables : variables_in before + variables_made r ≤ 200000
 
 -- What the answer of settling says of the box: it is that of the section, or it was spent and lost no common fixpoint.
 abbrev pub IsSectionAs : List ℕ → List Item → Option (List Span) → Settled → Type 0

@@ -11,7 +11,8 @@ use Rattle.ctc_eval.specs.EvalLaws.{eval-monotone, eval-reads_only, eval-in_stor
 use Rattle.ctc_delay.specs.DelayLaws.{delay_to-monotone, delay_from-monotone, delay_shift-monotone, delay_to-reads_only, delay_from-reads_only, delay_shift-reads_only, delay_to-in_store, delay_from-in_store, delay_shift-in_store, delay-fits_more, delay_to-same_projections, delay_from-same_projections, delay_shift-same_projections, delay_to-same_scope, delay_from-same_scope, delay_shift-same_scope}
 use Rattle.ctc_dist.specs.DistLaws.{dist-monotone, dist-reads_only, dist-in_store, dist-fits_more, dist-same_projections, dist-same_scope}
 use Rattle.ctc_constell.specs.ConstellLaws.{constell-monotone, constell-reads_only, constell-in_store, constell-fits_more, constell-same_projections, constell-same_scope}
-use Rattle.mission_net.specs.Constraints.{Constraint, SliceOf, DerivOf, BoundOf, EvalOf, DelayToOf, DelayFromOf, DelayShiftOf, DistOf, ConstellOf, constraint_projections, constraint_scope, IsOf}
+use Rattle.expr_hc4.specs.ExprLaws.{expr-monotone, expr-reads_only, expr-in_store, expr-fits_more, expr-same_projections, expr-same_scope}
+use Rattle.mission_net.specs.Constraints.{Constraint, SliceOf, DerivOf, BoundOf, EvalOf, DelayToOf, DelayFromOf, DelayShiftOf, DistOf, ConstellOf, ExprOf, constraint_projections, constraint_scope, IsOf}
 
 pub constraint-monotone : (Fits : List Span → Type 0) (c : Constraint) (s : Shape) → All (IsMonotone Fits) (constraint_projections s c)
 constraint-monotone Fits (SliceOf signal i) s = slice-monotone Fits s signal i
@@ -23,6 +24,7 @@ constraint-monotone Fits (DelayFromOf x y tau) s = delay_from-monotone Fits s x 
 constraint-monotone Fits (DelayShiftOf x y tau) s = delay_shift-monotone Fits s x y tau
 constraint-monotone Fits (DistOf p b near far) s = dist-monotone Fits s p b near far
 constraint-monotone Fits (ConstellOf p marks) s = constell-monotone Fits s p marks
+constraint-monotone Fits (ExprOf place leaves comparison) s = expr-monotone Fits s place leaves comparison
 
 pub constraint-reads_only : (c : Constraint) (s : Shape) → All (ReadsOnly (λ xs. IsOf s c) (constraint_scope s c)) (constraint_projections s c)
 constraint-reads_only (SliceOf signal i) s = slice-reads_only (λ xs. IsOf s (SliceOf signal i)) s signal i
@@ -34,6 +36,7 @@ constraint-reads_only (DelayFromOf x y tau) s = delay_from-reads_only (λ xs. Is
 constraint-reads_only (DelayShiftOf x y tau) s = delay_shift-reads_only (λ xs. IsOf s (DelayShiftOf x y tau)) s x y tau
 constraint-reads_only (DistOf p b near far) s = dist-reads_only (λ xs. IsOf s (DistOf p b near far)) s p b near far
 constraint-reads_only (ConstellOf p marks) s = constell-reads_only (λ xs. IsOf s (ConstellOf p marks)) s p marks
+constraint-reads_only (ExprOf place leaves comparison) s = expr-reads_only (λ xs. IsOf s (ExprOf place leaves comparison)) s place leaves comparison
 
 pub constraint-in_store : (c : Constraint) (s : Shape) → IsShape s → IsOf s c → All (λ k. k < s.cells) (constraint_scope s c) × All (λ (p : Projection). p.target < s.cells) (constraint_projections s c)
 constraint-in_store (SliceOf signal i) s shape of = slice-in_store s signal i shape of
@@ -45,6 +48,7 @@ constraint-in_store (DelayFromOf x y tau) s shape of = delay_from-in_store s x y
 constraint-in_store (DelayShiftOf x y tau) s shape of = delay_shift-in_store s x y tau shape of
 constraint-in_store (DistOf p b near far) s shape of = dist-in_store s p b near far shape of
 constraint-in_store (ConstellOf p marks) s shape of = constell-in_store s p marks shape of
+constraint-in_store (ExprOf place leaves comparison) s shape of = expr-in_store s place leaves comparison shape of
 
 pub constraint-more : (c : Constraint) (s t : Shape) → Extends s t → IsOf s c → IsOf t c
 constraint-more (SliceOf signal i) s t grows of = slice-fits_more s t signal i grows of
@@ -56,6 +60,7 @@ constraint-more (DelayFromOf x y tau) s t grows of = delay-fits_more s t x y tau
 constraint-more (DelayShiftOf x y tau) s t grows of = delay-fits_more s t x y tau grows of
 constraint-more (DistOf p b near far) s t grows of = dist-fits_more s t p b near far grows of
 constraint-more (ConstellOf p marks) s t grows of = constell-fits_more s t p marks grows of
+constraint-more (ExprOf place leaves comparison) s t grows of = expr-fits_more s t place leaves grows of
 
 pub constraint-same_projections : (c : Constraint) (s t : Shape) → Extends s t → IsOf s c → constraint_projections t c ≡ constraint_projections s c
 constraint-same_projections (SliceOf signal i) s t grows of = slice-same_projections s t signal i grows of
@@ -67,6 +72,7 @@ constraint-same_projections (DelayFromOf x y tau) s t grows of = delay_from-same
 constraint-same_projections (DelayShiftOf x y tau) s t grows of = delay_shift-same_projections s t x y tau grows of
 constraint-same_projections (DistOf p b near far) s t grows of = dist-same_projections s t p b near far grows of
 constraint-same_projections (ConstellOf p marks) s t grows of = constell-same_projections s t p marks grows of
+constraint-same_projections (ExprOf place leaves comparison) s t grows of = expr-same_projections s t place leaves comparison grows of
 
 pub constraint-same_scope : (c : Constraint) (s t : Shape) → Extends s t → IsOf s c → constraint_scope t c ≡ constraint_scope s c
 constraint-same_scope (SliceOf signal i) s t grows of = slice-same_scope s t signal i grows of
@@ -78,3 +84,4 @@ constraint-same_scope (DelayFromOf x y tau) s t grows of = delay_from-same_scope
 constraint-same_scope (DelayShiftOf x y tau) s t grows of = delay_shift-same_scope s t x y tau grows of
 constraint-same_scope (DistOf p b near far) s t grows of = dist-same_scope s t p b near far grows of
 constraint-same_scope (ConstellOf p marks) s t grows of = constell-same_scope s t p marks grows of
+constraint-same_scope (ExprOf place leaves comparison) s t grows of = expr-same_scope s t place leaves grows of

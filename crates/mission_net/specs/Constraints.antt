@@ -14,10 +14,15 @@ use Rattle.ctc_delay.specs.Places.{place_count}
 use Rattle.ctc_delay.specs.Delays.{delay_to_projections, delay_from_projections, delay_shift_projections, delay_to_scope, delay_from_scope, delay_shift_scope, DelayFits, IsDelay}
 use Rattle.ctc_dist.specs.Distances.{dist_projections, dist_scope, DistFits, IsAtDistance}
 use Rattle.ctc_constell.specs.Constellations.{constell_projections, constell_scope, ConstellFits, IsOneOf}
+use Rattle.expr_values.specs.Expressions.{Comparison}
+use Rattle.expr_hc4.specs.Places.{expr_scope, ExprFits, first_uses}
+use Rattle.expr_hc4.specs.Projections.{expr_projections, SatisfiesAt}
+use Rattle.expr_hc4.specs.declared.places.Leaf.{Leaf}
+use Rattle.expr_hc4.specs.declared.places.Place.{Place}
 
 -- A constraint on cells, as plain data: of a signal over a slice; of a signal and its rate over a slice; of a signal from a tick to another; of a
 -- signal, with its rate or without, and its value at a time that lies in a declared range; of a signal and a later one, by what they are held; of
--- two points at a distance; of a point that is one of several marks. Points are lists of variables.
+-- two points at a distance; of a point that is one of several marks; of a formula at a gate, at an envelope, or once. Points are lists of variables.
 pub data Constraint : Type 0 where
   SliceOf : (signal slice : ℕ) → Constraint
   DerivOf : (x rate slice : ℕ) → Constraint
@@ -28,6 +33,7 @@ pub data Constraint : Type 0 where
   DelayShiftOf : (x y tau : ℕ) → Constraint
   DistOf : (p b : List ℕ) (near far : ℤ) → Constraint
   ConstellOf : (p : List ℕ) (marks : List (List ℕ)) → Constraint
+  ExprOf : (place : Place) (leaves : List Leaf) (comparison : Comparison) → Constraint
 
 abbrev pub constraint_projections : Shape → Constraint → List Projection
 constraint_projections s (SliceOf signal i) = slice_projections s signal i
@@ -39,6 +45,7 @@ constraint_projections s (DelayFromOf x y tau) = delay_from_projections s x y ta
 constraint_projections s (DelayShiftOf x y tau) = delay_shift_projections s x y tau
 constraint_projections s (DistOf p b near far) = dist_projections s p b near far
 constraint_projections s (ConstellOf p marks) = constell_projections s p marks
+constraint_projections s (ExprOf place leaves comparison) = expr_projections s place leaves comparison
 
 -- the cells that a constraint's formulas read
 abbrev pub constraint_scope : Shape → Constraint → List ℕ
@@ -51,6 +58,7 @@ constraint_scope s (DelayFromOf x y tau) = delay_from_scope s y tau
 constraint_scope s (DelayShiftOf x y tau) = delay_shift_scope s x y tau
 constraint_scope s (DistOf p b near far) = dist_scope s p b
 constraint_scope s (ConstellOf p marks) = constell_scope s p marks
+constraint_scope s (ExprOf place leaves comparison) = expr_scope s place leaves
 
 -- how many cells of a signal an evaluation reads, and of its rate, if it has one
 abbrev pub reads_near : List ℕ → Span → ℕ
@@ -71,6 +79,7 @@ reads_of grid (DelayFromOf x y tau) = place_count grid + 1
 reads_of grid (DelayShiftOf x y tau) = 2 * place_count grid + 1
 reads_of grid (DistOf p b near far) = length p + length b
 reads_of grid (ConstellOf p marks) = length p + length (concat marks)
+reads_of grid (ExprOf place leaves comparison) = length (first_uses leaves)
 
 -- how many cells several constraints read, each on its own
 abbrev pub reads_in : List ℕ → List Constraint → ℕ
@@ -87,6 +96,7 @@ IsOf s (DelayFromOf x y tau) = DelayFits s x y tau
 IsOf s (DelayShiftOf x y tau) = DelayFits s x y tau
 IsOf s (DistOf p b near far) = DistFits s p b near far
 IsOf s (ConstellOf p marks) = ConstellFits s p marks
+IsOf s (ExprOf place leaves comparison) = ExprFits s place leaves
 
 -- what a constraint says of an assignment
 abbrev pub Satisfies : Shape → Assignment → Constraint → Type 0
@@ -99,3 +109,4 @@ Satisfies s a (DelayFromOf x y tau) = IsDelay s a x y tau
 Satisfies s a (DelayShiftOf x y tau) = IsDelay s a x y tau
 Satisfies s a (DistOf p b near far) = IsAtDistance a p b near far
 Satisfies s a (ConstellOf p marks) = IsOneOf a p marks
+Satisfies s a (ExprOf place leaves comparison) = SatisfiesAt s place a leaves comparison

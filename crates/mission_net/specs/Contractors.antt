@@ -3,10 +3,11 @@ use Rattle.std.specs.Prelude.{ℕ, List, map}
 use Rattle.tube_spec.specs.Shape.{Shape}
 use Rattle.tube_spec.specs.Projection.{Projection}
 use Rattle.ctc_eval.specs.Held.{rate_of}
-use Rattle.ctc_dist.specs.Points.{numbers}
-use Rattle.mission_net.specs.Constraints.{Constraint, SliceOf, DerivOf, BoundOf, EvalOf, DelayToOf, DelayFromOf, DelayShiftOf, DistOf, ConstellOf, constraint_projections, constraint_scope}
+use Rattle.point_cells.specs.Points.{numbers}
+use Rattle.expr_hc4.specs.Programs.{bound_comparison}
+use Rattle.mission_net.specs.Constraints.{Constraint, SliceOf, DerivOf, BoundOf, EvalOf, DelayToOf, DelayFromOf, DelayShiftOf, DistOf, ConstellOf, ExprOf, constraint_projections, constraint_scope}
 use Rattle.mission_net.specs.declared.AnyCtc.{AnyCtc}
-use Rattle.mission_net.specs.declared.AnyCtc.TheVariants.{Slice, Deriv, Bound, Eval, DelayTo, DelayFrom, DelayShift, Dist2, Dist3, Constell}
+use Rattle.mission_net.specs.declared.AnyCtc.TheVariants.{Slice, Deriv, Bound, Eval, DelayTo, DelayFrom, DelayShift, Dist2, Dist3, Constell, Expr}
 
 -- the constraint that a contractor stands for
 abbrev pub constraint_of : AnyCtc → Constraint
@@ -20,6 +21,7 @@ constraint_of (DelayShift c) = DelayShiftOf c.x.0 c.y.0 c.tau.0
 constraint_of (Dist2 c) = DistOf (numbers c.p) (numbers c.b) c.near c.far
 constraint_of (Dist3 c) = DistOf (numbers c.p) (numbers c.b) c.near c.far
 constraint_of (Constell c) = ConstellOf (numbers c.p) (map numbers c.marks.items)
+constraint_of (Expr c) = ExprOf c.place c.flat.value.leaves (bound_comparison c.flat.value)
 
 abbrev pub any_projections : AnyCtc → Shape → List Projection
 any_projections c s = constraint_projections s (constraint_of c)

@@ -2,8 +2,16 @@
 //! box then is: the greatest common fixpoint of the records so far, which encloses every trajectory that is consistent with them.
 #![tactic(auto)]
 
+mod adding;
+mod formulas;
+mod made;
+mod missions;
+mod motion;
+mod points;
 mod records;
 mod section;
+#[cfg(test)]
+mod tests;
 
 use ctc_constell::ConstellCtc;
 use ctc_core::{Contractor, Revised};
@@ -11,14 +19,16 @@ use ctc_delay::{DelayFrom, DelayShift, DelayTo};
 use ctc_deriv::{BoundCtc, DerivCtc, SliceCtc};
 use ctc_dist::DistCtc;
 use ctc_eval::EvalCtc;
-pub use records::build;
+use expr_hc4::ExprCtc;
+pub use made::Made;
+pub use missions::build;
 pub use section::{SectionEnd, next_section};
 use std::sync::ledger::Ledger;
 use step_count::Steps;
 use tube_store::{CellId, Store};
 
 /// A contractor of one of the kinds that records make. Each call is passed on to the contractor within.
-#[derive(Debug, Drop)]
+#[derive(Drop)]
 pub enum AnyCtc {
     /// A slice of a signal.
     Slice(SliceCtc),
@@ -40,6 +50,8 @@ pub enum AnyCtc {
     Dist3(DistCtc<3>),
     /// A point of the plane that is one of several marks.
     Constell(ConstellCtc<2>),
+    /// A formula at a gate, at an envelope, or once.
+    Expr(ExprCtc),
 }
 
 impl Contractor for AnyCtc {
@@ -81,6 +93,7 @@ impl Contractor for AnyCtc {
             AnyCtc::Dist2(c) => c.reads(store),
             AnyCtc::Dist3(c) => c.reads(store),
             AnyCtc::Constell(c) => c.reads(store),
+            AnyCtc::Expr(c) => c.reads(store),
         }
     }
 
@@ -96,6 +109,7 @@ impl Contractor for AnyCtc {
             AnyCtc::Dist2(c) => c.read(store, i),
             AnyCtc::Dist3(c) => c.read(store, i),
             AnyCtc::Constell(c) => c.read(store, i),
+            AnyCtc::Expr(c) => c.read(store, i),
         }
     }
 
@@ -111,6 +125,7 @@ impl Contractor for AnyCtc {
             AnyCtc::Dist2(c) => c.writes(store),
             AnyCtc::Dist3(c) => c.writes(store),
             AnyCtc::Constell(c) => c.writes(store),
+            AnyCtc::Expr(c) => c.writes(store),
         }
     }
 
@@ -126,6 +141,7 @@ impl Contractor for AnyCtc {
             AnyCtc::Dist2(c) => c.written(store, i),
             AnyCtc::Dist3(c) => c.written(store, i),
             AnyCtc::Constell(c) => c.written(store, i),
+            AnyCtc::Expr(c) => c.written(store, i),
         }
     }
 
@@ -141,6 +157,7 @@ impl Contractor for AnyCtc {
             AnyCtc::Dist2(c) => c.revise(store, steps),
             AnyCtc::Dist3(c) => c.revise(store, steps),
             AnyCtc::Constell(c) => c.revise(store, steps),
+            AnyCtc::Expr(c) => c.revise(store, steps),
         }
     }
 
@@ -156,6 +173,7 @@ impl Contractor for AnyCtc {
             AnyCtc::Dist2(c) => c.still(store, steps),
             AnyCtc::Dist3(c) => c.still(store, steps),
             AnyCtc::Constell(c) => c.still(store, steps),
+            AnyCtc::Expr(c) => c.still(store, steps),
         }
     }
 }

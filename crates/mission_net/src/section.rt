@@ -1,14 +1,16 @@
-ghost use Rattle.std.specs.Prelude.{◌≡◌, ◌+◌, ◌≤◌, ℕ, List, IfOk, OnOk, IsFalse, All, length, take, drop};
+ghost use Rattle.std.specs.Prelude.{◌≡◌, ◌+◌, ◌≤◌, ℕ, List, IfOk, OnOk, IsFalse, IsNone, All, length, take, drop};
 ghost use Rattle.tube_spec.specs.Box.{box_more, measure_of};
 ghost use Rattle.tube_spec.specs.Owner.{start_of};
-ghost use Rattle.mission_log.specs.Valid.{IsMission};
+ghost use Rattle.mission_items.specs.Valid.{IsMission};
 ghost use Rattle.mission_net.specs.Records.{owners_from, IsEnclosure, Encloses};
+ghost use Rattle.mission_net.specs.Tables.{IsTableOf};
 ghost use Rattle.mission_net.specs.Building.{IsNetOf, IsSectionAs, IsSpentAs};
 
 use crate::AnyCtc;
-use crate::records::build;
+use crate::made::Made;
+use crate::missions::build_on;
 use ctc_network::{Net, Order, Settled};
-use mission_log::Mission;
+use mission_items::Mission;
 use std::sync::ledger::Ledger;
 use step_count::Steps;
 use tube_io::NoMemory;
@@ -26,11 +28,13 @@ pub struct SectionEnd {
 /// it has, with the new cells at their declared ranges.
 ///
 /// Going on so equals starting afresh: where the box before lost no common fixpoint of the records before, the box is that of the
-/// section of all records so far, whatever the order. After want of memory the net is not built on.
+/// section of all records so far, whatever the order. The table is that of the records before, and is carried on. After want of memory
+/// neither is built on.
 pub fn next_section<L: Ledger>(
     mission: &Mission,
     first: usize,
     last: usize,
+    table: &mut Made,
     net: &mut Net<AnyCtc>,
     order: Order,
     budget: u64,
@@ -39,10 +43,12 @@ pub fn next_section<L: Ledger>(
     requires order { first ≤ last }
     requires within { last ≤ length mission.now.items }
     requires mission { IsMission mission.now }
+    requires table { IsTableOf table.old (take first mission.now.items) }
     requires holds { IsNetOf mission.now.cuts (take first mission.now.items) net.old }
     requires before { IsEnclosure mission.now.cuts (take first mission.now.items) net.old.store.box }
 
-    // The net is that of the records so far.
+    // The net and the table are those of the records so far.
+    ensures table { OnOk result (IsTableOf table.new (take last mission.now.items)) }
     ensures holds { OnOk result (IsNetOf mission.now.cuts (take last mission.now.items) net.new) }
 
     // Its box is the greatest common fixpoint of their projections below the declared ranges, or empty exactly where there is none, or
@@ -54,9 +60,18 @@ pub fn next_section<L: Ledger>(
     ensures resting { IfOk result (λ end. end.answer ≡ Settled.Fixpoint → All IsFalse net.new.waiting) }
     ensures began { IfOk result (λ end. end.began ≡ measure_of (box_more net.old.store.box (start_of mission.now.cuts (owners_from (take first mission.now.items) (drop first (take last mission.now.items)))))) }
     ensures spent { IfOk result (λ end. IsSpentAs mission.now.cuts (take last mission.now.items) net.new.store.box end.began budget end.answer) }
+
+    // No measure is above the greatest widths of 2,000,000 cells.
+    ensures small { IfOk result (λ end. end.began ≤ 2000000000000000) }
+
+    // After an empty section it is empty, and no contractor is fired for it.
+    ensures emptied { IfOk result (λ end. IsNone net.old.store.box → end.answer ≡ Settled.Empty) }
+    ensures unfired { IsNone net.old.store.box → steps.new ≡ steps.old }
 {
-    build(mission, first, last, net)?;
-    let began = net.store().measure();
+    build_on(mission, first, last, table, net)?;
+    let store = net.store();
+    store.known();
+    let began = store.measure();
     let answer = net.settle(order, budget, steps);
     Ok(SectionEnd { answer, began })
 }

@@ -1,35 +1,85 @@
-use Rattle.std.proofs.Common.{◌≡◌, ◌+◌, arith, ap, ◌∙◌, [], ◌∷◌, length, map}
-use Rattle.tube_spec.specs.Owner.{SignalIn}
-use Rattle.tube_store.specs.State.{State}
-use Rattle.mission_net.specs.Constraints.{reads_in}
-use Rattle.mission_net.specs.Contractors.{constraint_of}
-use Rattle.mission_net.proofs.Building.{none-few, none-reads, signal-few, signal-room, deriv-few, deriv-room}
+use Rattle.std.proofs.Common.{ℕ, ◌≤◌, List, [], All, arith, ap, subst, sym, ◌∙◌, append-nil, length}
+use Rattle.mission_items.proofs.Making.{length-signal_ranges, length-variable_ranges}
+use Rattle.tube_spec.specs.Span.{IsBounded}
+use Rattle.tube_spec.specs.Owner.{Owner, with_owners}
+use Rattle.mission_net.specs.Records.{constraints_of, made}
+use Rattle.mission_net.specs.Building.{IsAdded}
+use Rattle.mission_net.proofs.Additions.{added-grid, added-then}
+use Rattle.mission_net.proofs.Steps.{cells-beside, cells-can, more-variables, new-made, new-signals, new-variables, so-many-signals, so-many-variables}
+use Rattle.mission_net.proofs.Tabling.{on_ok}
 use Rattle.mission_net.proofs.records.add_item.Goals as goal
 
-pub add_slices-requires-clause-few : goal.add_slices-requires-clause-few
-add_slices-requires-clause-few c =
-    let s = c.args.net.now.store.shape in
-    let slices : c.slices-slices.result + 1 ≡ length s.grid = c.slices-slices.ensures ∙ ap (λ (t : State). length t.shape.grid) c.store.ensures in
-    let same = none-few (SignalIn c.in-Signal.range ∷ []) c.args.net.now c.add_signal.new.net c.in_ok-signal-in-Signal.ensures.added in
-    let few = signal-few s.grid c.args.before.now c.args.item.now c.slices-slices.result slices c.in-Signal.name c.in-Signal.range (length c.args.net.now.contractors) c.in-Signal.is c.requires.few in
-    omega (arith, same, few)
+pub overflow_cast-signals : goal.overflow_cast-signals
+overflow_cast-signals c =
+    let e = ap length c.requires.table.signals in
+    omega (arith, c.signals-signals.ensures, c.requires.next.few_signals, e, length-signal_ranges c.args.before.now)
 
-pub add_slices-requires-clause-room : goal.add_slices-requires-clause-room
-add_slices-requires-clause-room c =
-    let s = c.args.net.now.store.shape in
-    let slices : c.slices-slices.result + 1 ≡ length s.grid = c.slices-slices.ensures ∙ ap (λ (t : State). length t.shape.grid) c.store.ensures in
-    let same = none-reads (SignalIn c.in-Signal.range ∷ []) c.args.net.now c.add_signal.new.net c.in_ok-signal-in-Signal.ensures.added in
-    let room = signal-room s.grid c.args.before.now c.args.item.now c.slices-slices.result slices c.in-Signal.name c.in-Signal.range (reads_in s.grid (map constraint_of c.args.net.now.contractors)) c.in-Signal.is c.requires.room in
-    omega (arith, same, room)
+pub overflow_cast-variables : goal.overflow_cast-variables
+overflow_cast-variables c =
+    let e = ap length c.requires.table.variables in
+    omega (arith, c.variables-variables.ensures, c.requires.next.few_variables, e, length-variable_ranges c.args.before.now)
 
-pub add_rates-requires-clause-few : goal.add_rates-requires-clause-few
-add_rates-requires-clause-few c =
-    let s = c.args.net.now.store.shape in
-    let slices : c.slices-slices.result + 1 ≡ length s.grid = c.slices-slices.ensures ∙ ap (λ (t : State). length t.shape.grid) c.store.ensures in
-    deriv-few s.grid c.args.before.now c.args.item.now c.slices-slices.result slices c.in-Deriv.x c.in-Deriv.rate (length c.args.net.now.contractors) c.in-Deriv.is c.requires.few
+pub add-requires-clause-few : goal.add-requires-clause-few
+add-requires-clause-few c =
+    let e = ap length c.requires.table.variables in
+    omega (arith, c.requires.next.few_variables, e, length-variable_ranges c.args.before.now)
 
-pub add_rates-requires-clause-room : goal.add_rates-requires-clause-room
-add_rates-requires-clause-room c =
-    let s = c.args.net.now.store.shape in
-    let slices : c.slices-slices.result + 1 ≡ length s.grid = c.slices-slices.ensures ∙ ap (λ (t : State). length t.shape.grid) c.store.ensures in
-    deriv-room s.grid c.args.before.now c.args.item.now c.slices-slices.result slices c.in-Deriv.x c.in-Deriv.rate (reads_in s.grid (map constraint_of c.args.net.now.contractors)) c.in-Deriv.is c.requires.room
+pub add_cells-requires-clause-variables : goal.add_cells-requires-clause-variables
+add_cells-requires-clause-variables c =
+    let more = more-variables c.args.before.now c.args.item.now c.args.table.now c.add.new.self c.requires.table c.in_ok-add.ensures in
+    omega (arith, more, c.variables-variables.ensures)
+
+pub add_cells-requires-clause-ranges : goal.add_cells-requires-clause-ranges
+add_cells-requires-clause-ranges c =
+    let b = c.args.before.now in
+    let r = c.args.item.now in (
+      subst (All (IsBounded 500000000)) (sym (new-signals b r c.args.table.now c.add.new.self c.requires.table c.in_ok-add.ensures c.signals-signals.result c.signals-signals.ensures)) c.requires.next.signals,
+      subst (All (IsBounded 500000000)) (sym (new-variables b r c.args.table.now c.add.new.self c.requires.table c.in_ok-add.ensures c.variables-variables.result c.variables-variables.ensures)) c.requires.next.variables,
+    )
+
+pub add_cells-requires-clause-room : goal.add_cells-requires-clause-room
+add_cells-requires-clause-room c =
+    let made_here = new-made c.args.before.now c.args.item.now c.args.table.now c.add.new.self c.requires.table c.in_ok-add.ensures c.signals-signals.result c.variables-variables.result c.signals-signals.ensures c.variables-variables.ensures in
+    subst (λ (os : List Owner). (with_owners c.args.net.now.store.shape os).cells ≤ 2000000) (sym made_here) c.requires.next.cells
+
+pub add_contractors-requires-clause-beside : goal.add_contractors-requires-clause-beside
+add_contractors-requires-clause-beside c =
+    let b = c.args.before.now in
+    let r = c.args.item.now in
+    let net = c.args.net.now in
+    let made_here = new-made b r c.args.table.now c.add.new.self c.requires.table c.in_ok-add.ensures c.signals-signals.result c.variables-variables.result c.signals-signals.ensures c.variables-variables.ensures in
+    cells-beside b r c.args.table.now c.add.new.self c.requires.table c.in_ok-add.ensures net c.add_cells.new.net c.requires.next (subst (λ (os : List Owner). IsAdded os [] net c.add_cells.new.net) made_here c.in_ok-add_cells.ensures)
+
+pub add_contractors-requires-clause-signals : goal.add_contractors-requires-clause-signals
+add_contractors-requires-clause-signals c =
+    c.signals-signals.ensures ∙ so-many-signals c.args.before.now c.args.item.now c.args.table.now c.add.new.self c.requires.table c.in_ok-add.ensures
+
+pub add_contractors-requires-clause-variables : goal.add_contractors-requires-clause-variables
+add_contractors-requires-clause-variables c =
+    c.variables-variables.ensures ∙ so-many-variables c.args.before.now c.args.item.now c.args.table.now c.add.new.self c.requires.table c.in_ok-add.ensures
+
+pub add_contractors-requires-clause-few : goal.add_contractors-requires-clause-few
+add_contractors-requires-clause-few c =
+    let e = so-many-variables c.args.before.now c.args.item.now c.args.table.now c.add.new.self c.requires.table c.in_ok-add.ensures in
+    omega (arith, c.variables-variables.ensures, e, c.requires.next.few_variables)
+
+pub add_contractors-requires-clause-room : goal.add_contractors-requires-clause-room
+add_contractors-requires-clause-room c =
+    let b = c.args.before.now in
+    let r = c.args.item.now in
+    let net = c.args.net.now in
+    let made_here = new-made b r c.args.table.now c.add.new.self c.requires.table c.in_ok-add.ensures c.signals-signals.result c.variables-variables.result c.signals-signals.ensures c.variables-variables.ensures in
+    cells-can b r net c.add_cells.new.net c.requires.next (subst (λ (os : List Owner). IsAdded os [] net c.add_cells.new.net) made_here c.in_ok-add_cells.ensures)
+
+pub returns-clause-added : goal.returns-clause-added
+returns-clause-added c =
+    let b = c.args.before.now in
+    let r = c.args.item.now in
+    let net = c.args.net.now in
+    let made_here = new-made b r c.args.table.now c.add.new.self c.requires.table c.in_ok-add.ensures c.signals-signals.result c.variables-variables.result c.signals-signals.ensures c.variables-variables.ensures in
+    let cells = subst (λ (os : List Owner). IsAdded os [] net c.add_cells.new.net) made_here c.in_ok-add_cells.ensures in
+    let same = added-grid (made b r) [] net c.add_cells.new.net cells in
+    on_ok c.add_contractors.result _ _ (λ h.
+    subst (λ (os : List Owner). IsAdded os (constraints_of net.store.shape.grid b r) net c.add_contractors.new.net) (append-nil (made b r))
+    (added-then (made b r) [] [] (constraints_of net.store.shape.grid b r) net c.add_cells.new.net c.add_contractors.new.net cells
+    (subst (λ (g : List ℕ). IsAdded [] (constraints_of g b r) c.add_cells.new.net c.add_contractors.new.net) same h))) c.add_contractors.ensures

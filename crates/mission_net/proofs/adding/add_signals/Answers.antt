@@ -1,0 +1,13 @@
+use Rattle.tube_spec.specs.Owner.{SignalIn}
+use Rattle.mission_net.proofs.Additions.{cells-more, cells-room}
+use Rattle.mission_net.proofs.adding.add_signals.Goals as goal
+
+pub add_signal-requires-clause-room : goal.add_signal-requires-clause-room
+add_signal-requires-clause-room c =
+    let l = c.loop-range in
+    cells-room SignalIn c.args.ranges.now l.range-index c.range-item.result c.args.net.now l.net c.loop-range-test.true c.range-item.is c.requires.room l.invariant
+
+pub loop-range-preserved : goal.loop-range-preserved
+loop-range-preserved c =
+    let l = c.loop-range in
+    cells-more SignalIn c.args.ranges.now l.range-index c.range-item.result c.args.net.now l.net c.add_signal.new.net c.loop-range-test.true c.range-item.is l.invariant c.in_ok-add_signal.ensures.added
