@@ -20,7 +20,7 @@ use Rattle.loop_degree.proofs.Alls.{all-weaker}
 use Rattle.loop_prover.specs.First.{first_label, label_of, AreLabels}
 
 -- the first label that holds does hold
-first-holds : (d e : ℤ) (dx dy : Span) (l : Label) → first_label d e dx dy ≡ Some l → LabelHolds d e l dx dy
+pub first-holds : (d e : ℤ) (dx dy : Span) (l : Label) → first_label d e dx dy ≡ Some l → LabelHolds d e l dx dy
 first-holds d e dx dy l h = at (int_le d dx.lo) (int_le dx.hi (neg_ℤ d)) (int_le e dy.lo) (int_le dy.hi (neg_ℤ e)) refl refl refl refl (sym h)
   where
     holds : (m : Label) → ◌≡◌ {A = Option Label} (Some l) (Some m) → LabelHolds d e m dx dy → LabelHolds d e l dx dy

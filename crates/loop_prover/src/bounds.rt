@@ -33,8 +33,11 @@ fn greatest(step: Option<Interval>) -> i64
     }
 }
 
-/// The greatest absolute step of a signal from a tick to the next, by what the store gives it and its rates.
-fn greatest_step(store: &Store, x: SignalId, rates: &[SignalId], tick: u32) -> i64
+/// The greatest absolute step of a signal from a tick to the next, in millimetres, by what the store gives it and its rates; 0 where these
+/// share nothing. It takes no memory.
+///
+/// The store is not to be empty, the signals are to be its own, and the tick before its last one.
+pub fn greatest_step(store: &Store, x: SignalId, rates: &[SignalId], tick: u32) -> i64
     requires filled { IsSome store.now.box }
     requires x { x.0 < length store.now.shape.signals }
     requires rates { All (λ r. r.0 < length store.now.shape.signals) rates.now }

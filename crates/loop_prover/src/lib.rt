@@ -10,7 +10,7 @@ mod laws;
 #[cfg(test)]
 mod tests;
 
-pub use bounds::step_bound;
+pub use bounds::{greatest_step, step_bound};
 pub use labels::{label, labels_of};
 pub use laws::labels_law;
 pub use loop_degree::{Label, check_cells, degree_law};

@@ -1,0 +1,13 @@
+pub mod Lists
+pub mod Pairs
+pub mod Over
+pub mod Merging
+pub mod Adding
+pub mod Turning
+pub mod Surely
+pub mod Stepping
+pub mod Told
+pub mod Beside
+pub mod Tabling
+pub mod Testing
+pub mod Revisiting

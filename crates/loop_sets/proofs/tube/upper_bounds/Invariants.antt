@@ -1,0 +1,10 @@
+use Rattle.std.proofs.Common.{◌≡◌, map, take, neg_ℤ}
+use Rattle.loop_sets.specs.Tables.{AreSmall}
+use Rattle.loop_sets.proofs.tube.upper_bounds.Given as goal
+
+-- the bounds so far
+abbrev pub invariant-loop-tick : goal.invariant-loop-tick
+invariant-loop-tick l = record {
+  items : l.bounds.items ≡ map (λ s. neg_ℤ s.hi) (take l.tick-index l.ticks);
+  small : AreSmall l.bounds.items;
+}
