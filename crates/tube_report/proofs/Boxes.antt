@@ -3,8 +3,8 @@ use Rattle.std.proofs.Common.{ℕ, [], List, None, Some, Result, IsNone, flat_ma
 use Rattle.std.specs.Prelude.{Bool, Option}
 use Rattle.tube_spec.specs.Span.{Span}
 use Rattle.tube_spec.specs.Shape.{Shape}
-use Rattle.mission_log.specs.Names.{declared}
-use Rattle.mission_log.specs.declared.item.Item.{Item}
+use Rattle.mission_items.specs.Names.{declared}
+use Rattle.mission_items.specs.declared.item.Item.{Item}
 use Rattle.tube_io.specs.Sends.{Sends}
 use Rattle.tube_report.specs.Sections.{box_text, signal_text, variable_text}
 

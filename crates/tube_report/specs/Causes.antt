@@ -1,7 +1,7 @@
 -- What is written where there is no report: why a log is refused, or how the program is called.
 use Rattle.std.specs.Prelude.{ℕ, List, [], ◌∷◌, codes, decimal}
-use Rattle.mission_log.specs.declared.fault.Cause.{Cause}
-use Rattle.mission_log.specs.declared.fault.Cause.TheVariants as cause
+use Rattle.log_fields.specs.declared.fault.Cause.{Cause}
+use Rattle.log_fields.specs.declared.fault.Cause.TheVariants as cause
 use Rattle.tube_report.specs.Lines.{line}
 
 abbrev pub cause_number : Cause → ℕ

@@ -11,6 +11,10 @@ line [] = codes "\n"
 line (word ∷ []) = word ++ codes "\n"
 line (word ∷ (next ∷ words)) = word ++ 32 ∷ line (next ∷ words)
 
+-- the words of a range after another word, and the line's end
+abbrev pub range_text : Span → List ℕ
+range_text range = 32 ∷ line (signed_decimal range.lo ∷ signed_decimal range.hi ∷ [])
+
 -- ---- the lines of a section
 
 abbrev pub verdict_word : Verdict → List ℕ

@@ -5,10 +5,12 @@ use Rattle.tube_spec.specs.Span.{Span, width_of}
 use Rattle.tube_spec.specs.Shape.{Shape, gate_cell, envelope_cell}
 use Rattle.tube_spec.specs.Box.{cell_at}
 use Rattle.tube_spec.specs.Tick.{join_over}
-use Rattle.mission_log.specs.Names.{declared}
-use Rattle.mission_log.specs.declared.item.Decl.{Decl}
-use Rattle.mission_log.specs.declared.item.Decl.TheVariants as decl
-use Rattle.mission_log.specs.declared.item.Item.{Item}
+use Rattle.mission_items.specs.Names.{declared}
+use Rattle.mission_items.specs.declared.decl.Decl.{Decl}
+use Rattle.mission_items.specs.declared.decl.Decl.TheVariants as decl
+use Rattle.mission_items.specs.declared.item.Item.{Item}
+use Rattle.log_spelling.specs.References.{reference_text}
+use Rattle.log_spelling.specs.declared.reference.Part.TheVariants.{X, Y}
 use Rattle.tube_report.specs.Lines.{first_line, last_line, signal_line, gate_line, slice_line, var_line, brief_line}
 use Rattle.tube_report.specs.declared.section.Verdict.{Verdict}
 
@@ -49,12 +51,18 @@ brief_text s xs name signal = brief_line name (tube_range s xs signal) (tube_wid
 
 -- what is written of a declared name among the signals
 abbrev pub signal_text : Shape → List Span → Bool → List ℕ × Decl → List ℕ
-signal_text s xs brief (name, decl.Signal x) = if brief then brief_text s xs name x.0 else tube_text s xs name x.0
+signal_text s xs brief (name, decl.Signal x range) = if brief then brief_text s xs name x.0 else tube_text s xs name x.0
 signal_text s xs brief other = []
 
--- what is written of a declared name among the variables
+-- the line of a variable
+abbrev pub variable_line : Shape → List Span → List ℕ → ℕ → List ℕ
+variable_line s xs name v = var_line name (cell_at xs (slice_index s.vars v))
+
+-- what is written of a declared name among the variables: a beacon has one for each coordinate
 abbrev pub variable_text : Shape → List Span → List ℕ × Decl → List ℕ
-variable_text s xs (name, decl.Variable v) = var_line name (cell_at xs (slice_index s.vars v.0))
+variable_text s xs (name, decl.Variable v range) = variable_line s xs name v.0
+variable_text s xs (name, decl.Beacon place first x y) =
+    variable_line s xs (reference_text name X) first.0 ++ variable_line s xs (reference_text name Y) (first.0 + 1)
 variable_text s xs other = []
 
 -- the signals in order of declaration, and then the named variables in order of declaration; nothing for the empty box

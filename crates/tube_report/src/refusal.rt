@@ -4,7 +4,7 @@ ghost use Rattle.std.specs.Prelude.{◌≡◌};
 ghost use Rattle.tube_io.specs.Sends.{Sends};
 ghost use Rattle.tube_report.specs.Causes.{cause_name, cause_number, fault_line, usage_line};
 
-use mission_log::Cause;
+use log_fields::Cause;
 use text_pieces::{Piece, write_pieces};
 use tube_io::{Sink, WriteFault, write_all};
 

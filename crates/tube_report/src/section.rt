@@ -1,14 +1,18 @@
 //! The text of a section.
 
-ghost use Rattle.std.specs.Prelude.{◌≡◌, ℕ, ◌+◌, ◌≤◌, ◌↔◌, [], IsNone, IsSome, flat_map, length, take, unwrap_or};
-ghost use Rattle.mission_log.specs.Names.{declared, names_of, signals_in, signals_made, variables_in, variables_made};
+ghost use Rattle.std.specs.Prelude.{◌≡◌, ℕ, List, ◌+◌, ◌++◌, ◌≤◌, ◌↔◌, [], IsNone, IsSome, flat_map, length, take, unwrap_or};
+ghost use Rattle.mission_items.specs.Made.{signals_in, signals_made, variables_in, variables_made};
+ghost use Rattle.mission_items.specs.Names.{declared, names_of};
+ghost use Rattle.mission_items.specs.declared.item.Item.{Item};
+ghost use Rattle.log_spelling.specs.References.{part_text, reference_text};
 ghost use Rattle.tube_io.specs.Sends.{Sends};
-ghost use Rattle.tube_report.specs.Lines.{first_line, last_line, var_line, verdict_word};
-ghost use Rattle.tube_report.specs.Sections.{box_text, section_text, signal_text, variable_text};
+ghost use Rattle.tube_report.specs.Lines.{first_line, last_line, range_text, var_line, verdict_word};
+ghost use Rattle.tube_report.specs.Sections.{box_text, section_text, signal_text, variable_line, variable_text};
 
 use crate::tube::{held, write_brief, write_tube};
 use int_interval::Interval;
-use mission_log::{Item, Mission};
+use log_spelling::Part;
+use mission_items::{Item, Mission};
 use text_pieces::{Piece, write_pieces};
 use tube_io::{Sink, Text, WriteFault};
 use tube_store::{SignalId, Store, VarId};
@@ -65,13 +69,12 @@ fn write_last_line<K: Sink>(number: u32, sink: &mut K) -> Result<(), WriteFault>
     write_pieces(sink, &pieces)
 }
 
-#[tactic(auto, unfolding(crate::specs::Lines::var_line))]
-fn write_var_line<K: Sink>(name: &Text, range: Interval, sink: &mut K) -> Result<(), WriteFault>
-    ensures { Sends K.written K.flushed K.faults (var_line name.now range) sink.old sink.new result }
+// The end of a variable's line: what stands after its name.
+fn write_range<K: Sink>(part: Part, range: Interval, sink: &mut K) -> Result<(), WriteFault>
+    ensures { Sends K.written K.flushed K.faults (part_text part ++ range_text range) sink.old sink.new result }
 {
     let pieces = [
-        Piece::Text(b"var "),
-        Piece::Text(name.bytes()),
+        Piece::Text(part.text()),
         Piece::Text(b" "),
         Piece::Number(range.lo()),
         Piece::Text(b" "),
@@ -79,6 +82,19 @@ fn write_var_line<K: Sink>(name: &Text, range: Interval, sink: &mut K) -> Result
         Piece::Text(b"\n"),
     ];
     write_pieces(sink, &pieces)
+}
+
+fn write_var_line<K: Sink>(
+    name: &Text,
+    part: Part,
+    range: Interval,
+    sink: &mut K,
+) -> Result<(), WriteFault>
+    ensures { Sends K.written K.flushed K.faults (var_line (reference_text name.now part) range) sink.old sink.new result }
+{
+    let pieces = [Piece::Text(b"var "), Piece::Text(name.bytes())];
+    write_pieces(sink, &pieces)?;
+    write_range(part, range, sink)
 }
 
 // ---- signals and variables
@@ -93,8 +109,8 @@ fn write_signal<K: Sink>(
 ) -> Result<(), WriteFault>
     requires signal { signal.0 + signals_made item.now ≤ length store.now.shape.signals }
     requires filled { IsSome store.now.box }
-    ensures { (v : ℕ) → Sends K.written K.flushed K.faults
-        (flat_map (signal_text store.now.shape (unwrap_or store.now.box []) brief) (names_of signal.0 v item.now)) sink.old sink.new result }
+    ensures { (before : List Item) → signals_in before ≡ signal.0 → Sends K.written K.flushed K.faults
+        (flat_map (signal_text store.now.shape (unwrap_or store.now.box []) brief) (names_of before item.now)) sink.old sink.new result }
 {
     match item {
         Item::Signal { name, .. } if brief => write_brief(name, signal, store, sink),
@@ -123,6 +139,25 @@ fn write_signals<K: Sink>(
     Ok(())
 }
 
+// The coordinates of a beacon, of which the first is `var` and the second the variable after it.
+fn write_beacon<K: Sink>(
+    name: &Text,
+    var: VarId,
+    store: &Store,
+    sink: &mut K,
+) -> Result<(), WriteFault>
+    requires var { var.0 + 2 ≤ length store.now.shape.vars }
+    requires filled { IsSome store.now.box }
+    ensures { Sends K.written K.flushed K.faults
+        (variable_line store.now.shape (unwrap_or store.now.box []) (reference_text name.now Part.X) var.0 ++ variable_line store.now.shape (unwrap_or store.now.box []) (reference_text name.now Part.Y) (var.0 + 1)) sink.old sink.new result }
+{
+    store.known();
+    let x = held(store, store.var(var));
+    write_var_line(name, Part::X, x, sink)?;
+    let y = held(store, store.var(VarId(var.0 + 1)));
+    write_var_line(name, Part::Y, y, sink)
+}
+
 // What a record declares among the variables, where its first variable would be `var`.
 fn write_variable<K: Sink>(
     item: &Item,
@@ -132,11 +167,14 @@ fn write_variable<K: Sink>(
 ) -> Result<(), WriteFault>
     requires var { var.0 + variables_made item.now ≤ length store.now.shape.vars }
     requires filled { IsSome store.now.box }
-    ensures { (s : ℕ) → Sends K.written K.flushed K.faults
-        (flat_map (variable_text store.now.shape (unwrap_or store.now.box [])) (names_of s var.0 item.now)) sink.old sink.new result }
+    ensures { (before : List Item) → variables_in before ≡ var.0 → Sends K.written K.flushed K.faults
+        (flat_map (variable_text store.now.shape (unwrap_or store.now.box [])) (names_of before item.now)) sink.old sink.new result }
 {
     match item {
-        Item::Variable { name, .. } => write_var_line(name, held(store, store.var(var)), sink),
+        Item::Variable { name, .. } => {
+            write_var_line(name, Part::Whole, held(store, store.var(var)), sink)
+        }
+        Item::Beacon { name, .. } => write_beacon(name, var, store, sink),
         _ => Ok(()),
     }
 }

@@ -1,12 +1,13 @@
 //! The texts of a small mission, of refused logs and of wrong words.
 
 ghost use Rattle.std.specs.Prelude.{◌≡◌, ◌↔◌, ◌≤◌, ◌≤ℤ◌, IfOk, IsNone, length, negsuc, pos, take};
-ghost use Rattle.mission_log.specs.Names.{signals_in, variables_in};
+ghost use Rattle.mission_items.specs.Made.{signals_in, variables_in};
 ghost use Rattle.tube_spec.specs.Span.{IsBounded};
 
 use super::*;
 use int_interval::Interval;
-use mission_log::{Cause, Item, Items, Mission};
+use log_fields::Cause;
+use mission_items::{Item, Items, Mission};
 use slice_gates::Grid;
 use std::alloc::Global;
 use std::process::Abort;

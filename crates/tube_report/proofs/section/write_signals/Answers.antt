@@ -1,6 +1,6 @@
-use Rattle.std.proofs.Common.{ℕ, [], ap, arith, take, unwrap_or}
+use Rattle.std.proofs.Common.{[], ap, sym, arith, take, unwrap_or}
 use Rattle.std.proofs.lemmas.List.Sums.{sum_by_more}
-use Rattle.mission_log.specs.Names.{signals_made, variables_in}
+use Rattle.mission_items.specs.Made.{signals_made}
 use Rattle.tube_report.specs.Sections.{signal_text}
 use Rattle.tube_report.proofs.Declarations.{sends_no_record, sends_record}
 use Rattle.tube_report.proofs.Written.{sends_error}
@@ -8,17 +8,15 @@ use Rattle.tube_report.proofs.section.write_signals.Goals as goal
 
 pub returns-in_err-write_signal : goal.returns-in_err-write_signal
 returns-in_err-write_signal g c =
-    let v : ℕ = variables_in (take c.loop-item.item-index c.args.items.now) in
     let text = signal_text c.args.store.now.shape (unwrap_or c.args.store.now.box []) c.args.brief in
-    let here = rw (c.loop-item.invariant.count, c.item-item.is) at (c.in_err-write_signal.ensures v) in
+    let here = rw c.item-item.is at (c.in_err-write_signal.ensures (take c.loop-item.item-index c.args.items.now) (sym c.loop-item.invariant.count)) in
     sends_error _ _ _ _ _ _ _ _ c.from_residual.ensures.0
     (sends_no_record _ _ _ text c.args.items.now c.loop-item.item-index c.item-item.result _ _ _ _ c.loop-item-test.true c.loop-item.invariant.written here)
 
 pub loop-item-preserved : goal.loop-item-preserved
 loop-item-preserved g c =
-    let v : ℕ = variables_in (take c.loop-item.item-index c.args.items.now) in
     let text = signal_text c.args.store.now.shape (unwrap_or c.args.store.now.box []) c.args.brief in
-    let here = rw (c.loop-item.invariant.count, c.item-item.is) at (c.in_ok-write_signal.ensures v) in
+    let here = rw c.item-item.is at (c.in_ok-write_signal.ensures (take c.loop-item.item-index c.args.items.now) (sym c.loop-item.invariant.count)) in
     let count = sum_by_more signals_made c.args.items.now c.loop-item.item-index c.item-item.result c.loop-item-test.true in
     record {
       written = sends_record _ _ _ text c.args.items.now c.loop-item.item-index c.item-item.result _ _ _ c.loop-item-test.true c.loop-item.invariant.written here;

@@ -1,5 +1,6 @@
 use Rattle.std.proofs.Common.{◌≡◌, [], take, Ok, flat_map, unwrap_or}
-use Rattle.mission_log.specs.Names.{declared, signals_in}
+use Rattle.mission_items.specs.Made.{signals_in}
+use Rattle.mission_items.specs.Names.{declared}
 use Rattle.tube_io.specs.Sends.{Sends}
 use Rattle.tube_io.specs.declared.whole.WriteFault.{WriteFault}
 use Rattle.tube_report.specs.Sections.{signal_text}

@@ -1,0 +1,10 @@
+pub mod Cuts
+pub mod Numerals
+pub mod References
+pub mod Ranges
+pub mod LineWords
+pub mod Readings
+pub mod WholeLines
+pub mod Faults
+pub mod SameTexts
+pub mod Descriptions

@@ -1,0 +1,5 @@
+pub mod Words
+pub mod Sections
+pub mod Breaks
+pub mod Described
+pub mod Laws
