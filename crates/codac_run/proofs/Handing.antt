@@ -1,40 +1,79 @@
--- What a run over an accepted log leaves, from what settling and writing say.
-use Rattle.std.proofs.Common.{◌≡◌, ℕ, ◌⊎◌, inl, inr, List, Option, Some, IsSomeAnd, IsFalse, All, refl, sym, ap, subst, ◌∙◌}
+-- What a run over an accepted log leaves, from what settling and writing its sections say.
+use Rattle.std.proofs.Common.{◌≡◌, ℕ, ◌+◌, ◌≤◌, ◌⊎◌, inl, inr, true, false, List, [], ◌∷◌, ◌++◌, Option, Result, Ok, Err, OnOk, IsErr, IsSomeAnd, refl, sym, ap, subst, ◌∙◌, arith, length, map, take}
+use Rattle.std.proofs.lemmas.List.{map-append}
+use Rattle.std.proofs.Math.Seq.{take-length}
+use Rattle.tube_spec.specs.Span.{Span}
 use Rattle.tube_spec.specs.Box.{measure_of}
+use Rattle.tube_io.specs.Sends.{Sends}
+use Rattle.tube_io.specs.declared.whole.WriteFault.{WriteFault}
 use Rattle.ctc_network.specs.Nets.{NetState}
+use Rattle.ctc_network.specs.declared.answers.Order.{Order}
 use Rattle.ctc_network.specs.declared.answers.Settled.{Settled}
 use Rattle.ctc_network.specs.declared.answers.Settled.TheVariants as answer
-use Rattle.mission_log.specs.declared.item.Mission.{Mission}
+use Rattle.mission_items.specs.declared.item.Item.{Item}
+use Rattle.mission_items.specs.declared.mission.Mission.{Mission}
 use Rattle.cli_words.specs.declared.answer.Asked.{Asked}
-use Rattle.mission_net.specs.Records.{start, Encloses}
-use Rattle.mission_net.specs.Building.{IsNetOf, IsSectionAs, IsSpentAs}
+use Rattle.mission_net.specs.Building.{IsNetOf, IsSpentAs}
 use Rattle.mission_net.specs.declared.AnyCtc.{AnyCtc}
-use Rattle.tube_report.specs.Sections.{section_text}
+use Rattle.section_report.specs.Sections.{Section, settles_from, section_ends, IsSectionOf, is_spent, AreAll}
+use Rattle.section_report.specs.Texts.{verdict_of, report_text}
+use Rattle.section_report.specs.Leaving.{IsReported, IsCutShort}
+use Rattle.section_report.specs.declared.part.LastSection.{LastSection}
+use Rattle.section_report.proofs.Ends.{at-last}
 use Rattle.codac_run.specs.declared.ended.Status.{Status}
 use Rattle.codac_run.specs.declared.ended.Status.TheVariants as status
 use Rattle.codac_run.specs.declared.ended.SpentAt.{SpentAt}
 use Rattle.codac_run.specs.declared.ended.Ended.{Ended}
-use Rattle.codac_run.specs.Reports.{IsSpent, HandsSpent, IsSettledNet, HandsNet, HandsWhere, HandsNetWhere, IsSettledOnly, verdict_of, status_of, Writes, Reports}
+use Rattle.codac_run.specs.Reports.{IsSpent, HandsSpent, IsSettledNet, HandsNet, HandsWhere, HandsNetWhere, IsSettledOnly, status_of, Writes, Stops, IsBare, RunsOut, Reports}
 
-hands-spent : (m : Mission) (budget began : ℕ) (net : NetState AnyCtc) (a : Settled) (spent : Option SpentAt) → began ≡ measure_of (Some (start m.cuts m.items))
-    → IsSpentAs m.cuts m.items net.store.box began budget a → HandsWhere a began net spent → HandsSpent m budget a net.store.box spent
-hands-spent m budget began net answer.Fixpoint spent e cause h = h
-hands-spent m budget began net answer.Empty spent e cause h = h
-hands-spent m budget began net (answer.Spent id) spent e cause h =
-    subst (λ (o : Option SpentAt). IsSomeAnd o (λ at. (at.ctc ≡ id) × IsSpent m budget net.store.box at)) (sym h)
-    (refl, record { first = refl; held = refl; before = e; after = refl; cause = cause })
+-- ---- the last section
 
-hands-net : (m : Mission) (s : Status) (net : NetState AnyCtc) (handed : Option (NetState AnyCtc)) → (s ≡ status.Settled → IsSettledNet m net.store.box net) → HandsNetWhere s net handed → HandsNet m net.store.box s handed
-hands-net m status.Settled net handed settled h = subst (λ (o : Option (NetState AnyCtc)). IsSomeAnd o (IsSettledNet m net.store.box)) (sym h) (settled refl)
-hands-net m status.Empty net handed settled h = h
-hands-net m status.Usage net handed settled h = h
-hands-net m status.Refused net handed settled h = h
-hands-net m status.ReadFault net handed settled h = h
-hands-net m status.WriteFault net handed settled h = h
-hands-net m status.Spent net handed settled h = h
-hands-net m status.NoMemory net handed settled h = h
+final : ℕ → List ℕ → ℕ
+final d [] = d
+final d (x ∷ xs) = final x xs
 
--- a run that ends as settled had the answer Fixpoint
+final-more : (d : ℕ) (xs : List ℕ) (a : ℕ) → final d (xs ++ a ∷ []) ≡ a
+unfolding final
+final-more d [] a = refl
+final-more d (x ∷ xs) a = final-more x xs a
+
+-- where all sections of a mission are there, the last takes all records
+takes-all : (m : Mission) (earlier : List Section) (last : Section) → map (λ (d : Section). d.upto) (earlier ++ last ∷ []) ≡ section_ends m.items → take last.upto m.items ≡ m.items
+takes-all m earlier last e =
+    let uptos = map (λ (d : Section). d.upto) earlier in
+    let same : last.upto ≡ length m.items =
+    sym (final-more 0 uptos last.upto) ∙ ap (final 0) (sym (map-append (λ (d : Section). d.upto) earlier (last ∷ [])) ∙ e) ∙ final-more 0 (settles_from 0 m.items) (length m.items) in
+    ap (λ (n : ℕ). take n m.items) same ∙ take-length m.items
+
+-- ---- what is handed out
+
+hands-spent : (m : Mission) (budget number : ℕ) (last : Section) (net : NetState AnyCtc) (began : ℕ) (a : Settled) (spent : Option SpentAt) → last.box ≡ net.store.box → began ≡ last.began
+    → IsSpentAs m.cuts (take last.upto m.items) last.box last.began budget a → HandsWhere a number began net spent → HandsSpent m budget number last a spent
+hands-spent m budget number last net began answer.Fixpoint spent box same cause h = h
+hands-spent m budget number last net began answer.Empty spent box same cause h = h
+hands-spent m budget number last net began (answer.Spent id) spent box same cause h =
+    subst (λ (o : Option SpentAt). IsSomeAnd o (λ at. (at.ctc ≡ id) × IsSpent m budget number last at)) (sym h) (
+      refl,
+      record {
+        numbered = refl;
+        held = sym box;
+        before = same;
+        after = ap measure_of (sym box);
+        cause = subst (λ (n : ℕ). IsSpentAs m.cuts (take last.upto m.items) last.box n budget (answer.Spent id)) (sym same) cause;
+      },
+    )
+
+hands-net : (m : Mission) (box : Option (List Span)) (s : Status) (net : NetState AnyCtc) (handed : Option (NetState AnyCtc)) → (s ≡ status.Settled → IsSettledNet m box net) → HandsNetWhere s net handed → HandsNet m box s handed
+hands-net m box status.Settled net handed settled h = subst (λ (o : Option (NetState AnyCtc)). IsSomeAnd o (IsSettledNet m box)) (sym h) (settled refl)
+hands-net m box status.Empty net handed settled h = h
+hands-net m box status.Usage net handed settled h = h
+hands-net m box status.Refused net handed settled h = h
+hands-net m box status.ReadFault net handed settled h = h
+hands-net m box status.WriteFault net handed settled h = h
+hands-net m box status.Spent net handed settled h = h
+hands-net m box status.NoMemory net handed settled h = h
+
+-- a run that ends as settled had the answer Fixpoint, and failed at no write
 only-fixpoint : (a : Settled) (s : Status) → (s ≡ status_of (verdict_of a)) ⊎ (s ≡ status.WriteFault) → s ≡ status.Settled → a ≡ answer.Fixpoint
 only-fixpoint answer.Fixpoint s h e = refl
 only-fixpoint answer.Empty s (inl h) e = absurd (cc)
@@ -47,23 +86,74 @@ settled-only answer.Fixpoint s h = tt
 settled-only answer.Empty s h = tt
 settled-only (answer.Spent id) s h = λ e. elim h [ inl p ↦ absurd (cc) | inr p ↦ absurd (cc) ]
 
-pub reported : (m : Mission) (asked : Asked) (old new : Option (List ℕ)) (flushed : Option ℕ) (net : NetState AnyCtc) (a : Settled) (began : ℕ) (text : List ℕ) (s : Status) (e : Ended)
-    → IsNetOf m.cuts m.items net → IsSectionAs m.cuts m.items net.store.box a → Encloses m.cuts m.items net.store.box → (a ≡ answer.Fixpoint → All IsFalse net.waiting)
-    → began ≡ measure_of (Some (start m.cuts m.items)) → IsSpentAs m.cuts m.items net.store.box began asked.budget a
-    → text ≡ section_text m.items 1 (verdict_of a) net.store.shape net.store.box asked.brief
-    → (s ≡ status_of (verdict_of a)) ⊎ (s ≡ status.WriteFault) → Writes text (status_of (verdict_of a)) old new flushed s
-    → e.status ≡ s → HandsWhere a began net e.spent → HandsNetWhere s net e.net → Reports m asked old new flushed e
-reported m asked old new flushed net a began text s e holds section encloses resting is cause prints only writes same spent handed = record {
-  answer = a;
-  box = net.store.box;
-  text = text;
-  report = record {
-    prints = prints ∙ ap (λ shape. section_text m.items 1 (verdict_of a) shape net.store.box asked.brief) holds.shape;
-    greatest = section;
-    encloses = encloses;
-  };
-  writes = subst (Writes text (status_of (verdict_of a)) old new flushed) (sym same) writes;
-  spent = hands-spent m asked.budget began net a e.spent is cause spent;
-  net = subst (λ (t : Status). HandsNet m net.store.box t e.net) (sym same)
-      (hands-net m s net e.net (λ settled. record { holds = holds; held = refl; rests = resting (only-fixpoint a s only settled) }) handed);
-}
+-- a text that was written whole
+all-of : {P : Type 0} (r : Result (Unit {0}) WriteFault) → OnOk r P → (IsErr r → ⊥) → P
+all-of (Ok v) p ok = p
+all-of (Err e) p ok = absurd (ok refl)
+
+unspent-all : (m : Mission) (earlier : List Section) (last : Section) → AreAll m earlier last → last.answer ≡ answer.Fixpoint → map (λ (d : Section). d.upto) (earlier ++ last ∷ []) ≡ section_ends m.items
+unspent-all m earlier last (inl all) e = all
+unspent-all m earlier last (inr spent) e = absurd (let bad : true ≡ false = sym spent ∙ ap is_spent e in cc bad)
+
+module _ {K : Type 0} (written : K → Option (List ℕ)) (flushed : K → Option ℕ) (faults : K → ℕ) (m : Mission) (asked : Asked) (order : Order) (old mid : K) (new : Option (List ℕ)) (count : Option ℕ)
+    (net : NetState AnyCtc) (section : LastSection) (s : Status) (e : Ended)
+    (r : IsReported written flushed faults m (record { order = order; budget = asked.budget; brief = asked.brief }) old mid net section)
+    (only : (s ≡ status_of (verdict_of section.end.answer)) ⊎ (s ≡ status.WriteFault)) (told : IsErr section.written → s ≡ status.WriteFault)
+    (writes : (text : List ℕ) → Sends written flushed faults text old mid section.written → Writes text (status_of (verdict_of section.end.answer)) (written old) new count s)
+    (same : e.status ≡ s) (spent : HandsWhere section.end.answer section.number section.end.began net e.spent) (handed : HandsNetWhere s net e.net) where
+  answered : section.end.answer ≡ r.last.answer
+  answered = sym (ap (λ (d : Section). d.answer) r.here)
+
+  all-there : (s ≡ status.WriteFault → ⊥) → AreAll m r.earlier r.last
+  all-there ok = all-of section.written r.all (λ err. ok (told err))
+
+  net-of-all : s ≡ status.Settled → IsSettledNet m r.last.box net
+  net-of-all settled =
+      let fixpoint = only-fixpoint section.end.answer s only settled in
+      let ends = unspent-all m r.earlier r.last (all-there (λ fault. let bad : status.Settled ≡ status.WriteFault = sym settled ∙ fault in cc bad)) (sym answered ∙ fixpoint) in record {
+        holds = subst (λ (l : List Item). IsNetOf m.cuts l net) (takes-all m r.earlier r.last ends) r.holds;
+        held = sym (ap (λ (d : Section). d.box) r.here);
+        rests = r.resting fixpoint;
+      }
+
+  pub reported : Reports m asked (written old) new count e
+  reported = record {
+    earlier = r.earlier;
+    last = r.last;
+    sections = r.sections;
+    writes = subst (λ (t : Status). Writes (report_text m asked.brief (r.earlier ++ r.last ∷ [])) (status_of (verdict_of r.last.answer)) (written old) new count t) (sym same)
+        (subst (λ (a : Settled). Writes (report_text m asked.brief (r.earlier ++ r.last ∷ [])) (status_of (verdict_of a)) (written old) new count s) answered (writes (report_text m asked.brief (r.earlier ++ r.last ∷ [])) r.text));
+    all = λ ok. all-there (λ fault. ok (same ∙ fault));
+    spent = subst (λ (a : Settled). HandsSpent m asked.budget (length r.earlier + 1) r.last a e.spent) answered
+        (hands-spent m asked.budget (length r.earlier + 1) r.last net section.end.began section.end.answer e.spent (ap (λ (d : Section). d.box) r.here) (sym (ap (λ (d : Section). d.began) r.here))
+        (subst (IsSpentAs m.cuts (take r.last.upto m.items) r.last.box r.last.began asked.budget) (sym answered) (at-last (IsSectionOf m asked.budget) r.earlier r.last r.sections.sections.each).cause)
+        (subst (λ (n : ℕ). HandsWhere section.end.answer n section.end.began net e.spent) r.numbered spent));
+    net = subst (λ (t : Status). HandsNet m r.last.box t e.net) (sym same) (hands-net m r.last.box s net e.net net-of-all handed);
+  }
+
+pub ran-out : {K : Type 0} (written : K → Option (List ℕ)) (flushed : K → Option ℕ) (faults : K → ℕ) (m : Mission) (asked : Asked) (order : Order) (old new : K) (e : Ended)
+    → IsCutShort written flushed faults m (record { order = order; budget = asked.budget; brief = asked.brief }) old new → e.status ≡ status.NoMemory → IsBare e → RunsOut m asked (written old) (written new) e
+ran-out written flushed faults m asked order old new e short ended bare = record { ended = ended; bare = bare; done = short.done; sections = short.sections; unspent = short.unspent; writes = short.text.ok }
+
+-- ---- a run that is spent
+
+reports-small : (m : Mission) (asked : Asked) (old new : Option (List ℕ)) (flushed : Option ℕ) (e : Ended) → Reports m asked old new flushed e → e.status ≡ status.Spent → asked.budget ≤ 2000000000000000
+reports-small m asked old new flushed e r spent = by r.last.answer is.cause r.writes
+  where
+    is : IsSectionOf m asked.budget r.last
+    is = at-last (IsSectionOf m asked.budget) r.earlier r.last r.sections.sections.each
+
+    by : (a : Settled) → IsSpentAs m.cuts (take r.last.upto m.items) r.last.box r.last.began asked.budget a
+        → Writes (report_text m asked.brief (r.earlier ++ r.last ∷ [])) (status_of (verdict_of a)) old new flushed e.status → asked.budget ≤ 2000000000000000
+    by (answer.Spent id) cause w = omega (arith, cause.0, is.small)
+    by answer.Fixpoint cause (inl w) = absurd (let bad : status.Spent ≡ status.Settled = sym spent ∙ w.0 in cc bad)
+    by answer.Fixpoint cause (inr w) = absurd (let bad : status.Spent ≡ status.WriteFault = sym spent ∙ w.0 in cc bad)
+    by answer.Empty cause (inl w) = absurd (let bad : status.Spent ≡ status.Empty = sym spent ∙ w.0 in cc bad)
+    by answer.Empty cause (inr w) = absurd (let bad : status.Spent ≡ status.WriteFault = sym spent ∙ w.0 in cc bad)
+
+-- a budget that was spent is at most the greatest measure
+pub spent-small : (m : Mission) (asked : Asked) (old new : Option (List ℕ)) (flushed : Option ℕ) (e : Ended) → Stops status.NoMemory old new e ⊎ (RunsOut m asked old new e ⊎ Reports m asked old new flushed e)
+    → e.status ≡ status.Spent → asked.budget ≤ 2000000000000000
+spent-small m asked old new flushed e (inl stops) spent = absurd (let bad : status.Spent ≡ status.NoMemory = sym spent ∙ stops.0 in cc bad)
+spent-small m asked old new flushed e (inr (inl out)) spent = absurd (let bad : status.Spent ≡ status.NoMemory = sym spent ∙ out.ended in cc bad)
+spent-small m asked old new flushed e (inr (inr r)) spent = reports-small m asked old new flushed e r spent

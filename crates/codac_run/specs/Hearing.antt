@@ -1,9 +1,9 @@
 -- What was heard of a source, and the log that it is.
 use Rattle.std.specs.Prelude.{◌≡◌, ℕ, ◌<◌, List, Option, Some, None, IfSome, Result, Ok, Err, length}
 use Rattle.mission_log.specs.Log.{log_of}
-use Rattle.mission_log.specs.declared.fault.Cause.{Cause}
-use Rattle.mission_log.specs.declared.fault.Cause.TheVariants as cause
-use Rattle.mission_log.specs.declared.item.Mission.{Mission}
+use Rattle.log_fields.specs.declared.fault.Cause.{Cause}
+use Rattle.log_fields.specs.declared.fault.Cause.TheVariants as cause
+use Rattle.mission_items.specs.declared.mission.Mission.{Mission}
 use Rattle.codac_run.specs.declared.hearing.Heard.{Heard}
 use Rattle.codac_run.specs.declared.hearing.Heard.TheVariants as heard
 

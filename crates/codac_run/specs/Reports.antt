@@ -1,5 +1,5 @@
 -- What a run writes and hands out, and what its report says.
-use Rattle.std.specs.Prelude.{◌≡◌, ℕ, ◌⊎◌, Bool, List, Option, Some, None, IsSomeAnd, IsFalse, Result, Ok, Err, All}
+use Rattle.std.specs.Prelude.{◌≡◌, ℕ, ◌⊎◌, List, Option, Some, None, IsSomeAnd, IsFalse, Result, Ok, Err, All, [], ◌∷◌, ◌++◌, ◌+◌, length, take}
 use Rattle.tube_spec.specs.Span.{Span}
 use Rattle.tube_spec.specs.Box.{measure_of}
 use Rattle.tube_io.specs.Moves.{AllFlushed}
@@ -8,16 +8,16 @@ use Rattle.std.specs.Io.KnownBytes.{Appends}
 use Rattle.ctc_network.specs.Nets.{NetState}
 use Rattle.ctc_network.specs.declared.answers.Settled.{Settled}
 use Rattle.ctc_network.specs.declared.answers.Settled.TheVariants as answer
-use Rattle.mission_log.specs.declared.fault.Cause.{Cause}
-use Rattle.mission_log.specs.declared.item.Mission.{Mission}
+use Rattle.log_fields.specs.declared.fault.Cause.{Cause}
+use Rattle.mission_items.specs.declared.mission.Mission.{Mission}
 use Rattle.cli_words.specs.declared.answer.Asked.{Asked}
 use Rattle.cli_words.specs.declared.answer.Mode.{Mode}
 use Rattle.cli_words.specs.declared.answer.Mode.TheVariants as mode
-use Rattle.mission_net.specs.Records.{shape_by, start, Encloses}
-use Rattle.mission_net.specs.Building.{IsNetOf, IsSectionAs, IsSpentAs}
+use Rattle.mission_net.specs.Building.{IsNetOf, IsSpentAs}
 use Rattle.mission_net.specs.declared.AnyCtc.{AnyCtc}
 use Rattle.tube_report.specs.Causes.{fault_line, usage_line}
-use Rattle.tube_report.specs.Sections.{section_text}
+use Rattle.section_report.specs.Sections.{Section, AreSections, AreSectionsTo, AreUnspent, AreAll}
+use Rattle.section_report.specs.Texts.{verdict_of, report_text}
 use Rattle.tube_report.specs.declared.section.Verdict.{Verdict}
 use Rattle.tube_report.specs.declared.section.Verdict.TheVariants as verdict
 use Rattle.codac_run.specs.Hearing.{Hears, log_heard}
@@ -37,34 +37,20 @@ built (Some asked) = solved asked.mode asked
     solved mode.Solve asked = Some asked
     solved other asked = None
 
--- ---- what the report says
-
--- the verdict of a section, by the answer of settling
-abbrev pub verdict_of : Settled → Verdict
-verdict_of answer.Fixpoint = verdict.Settled
-verdict_of answer.Empty = verdict.Empty
-verdict_of (answer.Spent id) = verdict.Spent
-
--- The text is the report of a mission whose settling ended with this answer and this box: the box is what the answer says, and it
--- encloses every assignment that satisfies the records.
-pub record IsReport (m : Mission) (brief : Bool) (a : Settled) (box : Option (List Span)) (text : List ℕ) : Type 0 where
-  pub prints : text ≡ section_text m.items 1 (verdict_of a) (shape_by m.cuts m.items) box brief
-  pub greatest : IsSectionAs m.cuts m.items box a
-  pub encloses : Encloses m.cuts m.items box
-
 -- ---- what is handed out
 
--- where the budget was spent: the measure fell by it at least, and the contractor named still narrows the box
-pub record IsSpent (m : Mission) (budget : ℕ) (box : Option (List Span)) (at : SpentAt) : Type 0 where
-  pub first : at.section ≡ 1
-  pub held : at.store.box ≡ box
-  pub before : at.began ≡ measure_of (Some (start m.cuts m.items))
-  pub after : at.now ≡ measure_of box
-  pub cause : IsSpentAs m.cuts m.items box at.began budget (answer.Spent at.ctc)
+-- where the budget was spent: in the last section, whose measure fell by it at least, and the contractor named still narrows its box
+pub record IsSpent (m : Mission) (budget number : ℕ) (last : Section) (at : SpentAt) : Type 0 where
+  pub numbered : at.section ≡ number
+  pub held : at.store.box ≡ last.box
+  pub before : at.began ≡ last.began
+  pub after : at.now ≡ measure_of last.box
+  pub cause : IsSpentAs m.cuts (take last.upto m.items) last.box at.began budget (answer.Spent at.ctc)
 
-abbrev pub HandsSpent : Mission → ℕ → Settled → Option (List Span) → Option SpentAt → Type 0
-HandsSpent m budget (answer.Spent id) box spent = IsSomeAnd spent (λ at. (at.ctc ≡ id) × IsSpent m budget box at)
-HandsSpent m budget other box spent = spent ≡ None
+-- it is handed out exactly where the last section was spent
+abbrev pub HandsSpent : Mission → ℕ → ℕ → Section → Settled → Option SpentAt → Type 0
+HandsSpent m budget number last (answer.Spent id) spent = IsSomeAnd spent (λ at. (at.ctc ≡ id) × IsSpent m budget number last at)
+HandsSpent m budget number last other spent = spent ≡ None
 
 -- the net of all records at that box, in which no contractor waits
 pub record IsSettledNet (m : Mission) (box : Option (List Span)) (net : NetState AnyCtc) : Type 0 where
@@ -77,10 +63,10 @@ abbrev pub HandsNet : Mission → Option (List Span) → Status → Option (NetS
 HandsNet m box status.Settled net = IsSomeAnd net (IsSettledNet m box)
 HandsNet m box other net = net ≡ None
 
--- what is handed out of a net whose settling ended so
-abbrev pub HandsWhere : Settled → ℕ → NetState AnyCtc → Option SpentAt → Type 0
-HandsWhere (answer.Spent id) began net spent = spent ≡ Some (record { section = 1; ctc = id; began = began; now = measure_of net.store.box; store = net.store })
-HandsWhere other began net spent = spent ≡ None
+-- what is handed out of a net whose last settling ended so
+abbrev pub HandsWhere : Settled → ℕ → ℕ → NetState AnyCtc → Option SpentAt → Type 0
+HandsWhere (answer.Spent id) number began net spent = spent ≡ Some (record { section = number; ctc = id; began = began; now = measure_of net.store.box; store = net.store })
+HandsWhere other number began net spent = spent ≡ None
 
 -- the net is handed out where the status is Settled
 abbrev pub HandsNetWhere : Status → NetState AnyCtc → Option (NetState AnyCtc) → Type 0
@@ -115,19 +101,28 @@ Stops s old new e = (e.status ≡ s) × (new ≡ old) × IsBare e
 
 -- ---- how a run ends
 
--- over an accepted log: the report of its one section
+-- over an accepted log: its sections up to a last one, of which the texts were written
 pub record Reports (m : Mission) (asked : Asked) (old new : Option (List ℕ)) (flushed : Option ℕ) (e : Ended) : Type 0 where
-  pub answer : Settled
-  pub box : Option (List Span)
-  pub text : List ℕ
-  pub report : IsReport m asked.brief answer box text
-  pub writes : Writes text (status_of (verdict_of answer)) old new flushed e.status
-  pub spent : HandsSpent m asked.budget answer box e.spent
-  pub net : HandsNet m box e.status e.net
+  pub earlier : List Section
+  pub last : Section
+  pub sections : AreSectionsTo m asked.budget earlier last
+  pub writes : Writes (report_text m asked.brief (earlier ++ last ∷ [])) (status_of (verdict_of last.answer)) old new flushed e.status
+  pub all : (e.status ≡ status.WriteFault → ⊥) → AreAll m earlier last
+  pub spent : HandsSpent m asked.budget (length earlier + 1) last last.answer e.spent
+  pub net : HandsNet m last.box e.status e.net
+
+-- over an accepted log where memory ran out: the texts of its first sections were written, of which none was spent
+pub record RunsOut (m : Mission) (asked : Asked) (old new : Option (List ℕ)) (e : Ended) : Type 0 where
+  pub ended : e.status ≡ status.NoMemory
+  pub bare : IsBare e
+  pub done : List Section
+  pub sections : AreSections m asked.budget done
+  pub unspent : AreUnspent done
+  pub writes : Appends old new (report_text m asked.brief done)
 
 -- over a log that was heard: the line of its fault, or its report
 abbrev pub EndsBy : Result Mission (ℕ × Cause) → Asked → Option (List ℕ) → Option (List ℕ) → Option ℕ → Ended → Type 0
-EndsBy (Ok m) asked old new flushed e = Reports m asked old new flushed e
+EndsBy (Ok m) asked old new flushed e = RunsOut m asked old new e ⊎ Reports m asked old new flushed e
 EndsBy (Err fault) asked old new flushed e = Writes (fault_line fault.0 fault.1) status.Refused old new flushed e.status × IsBare e
 
 -- with wrong words the usage line; with right ones what the log is; or the run stopped before
@@ -149,3 +144,7 @@ IsRefusedOrStopped s = (s ≡ status.Refused) ⊎ (s ≡ status.ReadFault) ⊎ (
 -- an accepted log
 abbrev pub IsReportedOrStopped : Status → Type 0
 IsReportedOrStopped s = (s ≡ status.Settled) ⊎ (s ≡ status.Empty) ⊎ (s ≡ status.Spent) ⊎ (s ≡ status.ReadFault) ⊎ (s ≡ status.WriteFault) ⊎ (s ≡ status.NoMemory)
+
+-- an accepted log, where the budget is above what a section starts at and nothing failed
+abbrev pub IsWholeOrNoMemory : Status → Type 0
+IsWholeOrNoMemory s = (s ≡ status.Settled) ⊎ (s ≡ status.Empty) ⊎ (s ≡ status.NoMemory)

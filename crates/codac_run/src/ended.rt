@@ -7,9 +7,9 @@ use tube_store::Store;
 /// How a run ended. The numbers are the exit statuses of the program.
 #[derive(Clone, Copy, Debug, PartialEq, Eq)]
 pub enum Status {
-    /// The report was written, and its section has a common fixpoint.
+    /// The report was written, and its last section has a common fixpoint.
     Settled = 0,
-    /// The report was written, and its section is empty: no trajectory fits the log.
+    /// The report was written, and its last section is empty: no trajectory fits the log.
     Empty = 1,
     /// The command refuses the words; the usage line was written.
     Usage = 2,
@@ -19,20 +19,20 @@ pub enum Status {
     ReadFault = 4,
     /// The sink failed; a prefix was written.
     WriteFault = 5,
-    /// The report was written, and its section was spent: the budget ran out first.
+    /// The report was written up to a section that was spent: the budget ran out first.
     Spent = 6,
-    /// Memory ran out.
+    /// Memory ran out; the sections before were written.
     NoMemory = 7,
 }
 
-/// Where the budget was spent.
+/// Where the budget was spent, which is the last section.
 #[derive(Drop)]
 pub struct SpentAt {
     /// The number of the section, from 1.
     pub section: u32,
     /// A contractor that still narrows the box, by its number among those of the records.
     pub ctc: CtcId,
-    /// The measure of the box before the section was settled: the sum of the widths of its cells.
+    /// The measure of the box at the section's start: the sum of the widths of its cells.
     pub began: u128,
     /// The measure of the box when it was given up.
     pub now: u128,

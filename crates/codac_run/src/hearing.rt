@@ -1,9 +1,11 @@
 ghost use Rattle.std.specs.Prelude.{◌≡◌, ◌≤◌, IsErrOf, IfSome};
 ghost use Rattle.tube_io.specs.Causes.{Rose};
-ghost use Rattle.mission_log.specs.Valid.{IsMission};
+ghost use Rattle.mission_items.specs.Valid.{IsMission};
 ghost use Rattle.codac_run.specs.Hearing.{Gives};
 
-use mission_log::{Cause, LogFault, Mission, read_log};
+use log_fields::Cause;
+use mission_items::Mission;
+use mission_log::{LogFault, read_log};
 use std::alloc::Global;
 use tube_io::{ReadEnd, Source, read_whole};
 

@@ -2,9 +2,12 @@
 //! contract carries what the program promises: enclosure, the greatest fixpoint, and the cause of every answer.
 #![tactic(auto)]
 
+mod clock;
 mod ended;
 mod hearing;
+mod sure;
 mod top;
 
 pub use ended::{Ended, SpentAt, Status};
+pub use sure::run_in_memory;
 pub use top::run;

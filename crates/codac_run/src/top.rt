@@ -1,27 +1,30 @@
-ghost use Rattle.std.specs.Prelude.{◌≡◌, ◌≤◌, ◌⊎◌, ℕ, List, Option, Some, None, Result, Ok, Err, IfSome, IsErr};
+ghost use Rattle.std.specs.Prelude.{◌≡◌, ◌<◌, ◌≤◌, ◌⊎◌, ℕ, List, Option, Some, None, Result, Ok, Err, IfSome, IsErr};
 ghost use Rattle.tube_io.specs.Causes.{Rose};
 ghost use Rattle.tube_io.specs.Sends.{Sends};
 ghost use Rattle.cli_words.specs.Asked.{asked_of};
 ghost use Rattle.cli_words.specs.declared.answer.Asked.{Asked};
 ghost use Rattle.mission_log.specs.Log.{log_of};
-ghost use Rattle.mission_log.specs.Valid.{IsMission};
-ghost use Rattle.mission_log.specs.declared.fault.Cause.{Cause};
-ghost use Rattle.mission_log.specs.declared.item.Mission.{Mission};
+ghost use Rattle.mission_items.specs.Valid.{IsMission};
+ghost use Rattle.log_fields.specs.declared.fault.Cause.{Cause};
+ghost use Rattle.mission_items.specs.declared.mission.Mission.{Mission};
 ghost use Rattle.tube_report.specs.Causes.{fault_line, usage_line};
-ghost use Rattle.codac_run.specs.Reports.{built, verdict_of, status_of, Writes, Stops, IsBare, Reports, EndsBy, Ends, HandsWhere, HandsNetWhere, IsSettledOnly, IsUsageOrStopped, IsRefusedOrStopped, IsReportedOrStopped};
+ghost use Rattle.section_report.specs.Sections.{StartsBelow};
+ghost use Rattle.codac_run.specs.Reports.{built, status_of, Writes, Stops, IsBare, RunsOut, Reports, EndsBy, Ends, HandsWhere, HandsNetWhere, IsSettledOnly, IsUsageOrStopped, IsRefusedOrStopped, IsReportedOrStopped, IsWholeOrNoMemory};
 
+use crate::clock::same_grid;
 use crate::ended::{Ended, SpentAt, Status};
 use crate::hearing::{Heard, hear};
 use cli_words::{Asked, Mode, OrderWord, Words, read_words};
 use ctc_network::{Net, Order, Settled};
-use mission_log::{Cause, Mission};
-use mission_net::{AnyCtc, SectionEnd, next_section};
-use slice_gates::Grid;
+use log_fields::Cause;
+use mission_items::Mission;
+use mission_net::AnyCtc;
+use section_report::{Choices, LastSection, verdict_of, write_sections};
 use std::alloc::Global;
 use std::sync::ledger::Ledger;
 use step_count::Steps;
 use tube_io::{Flushed, NoMemory, Sink, Source, WriteFault};
-use tube_report::{Verdict, write_fault, write_section, write_usage};
+use tube_report::{Verdict, write_fault, write_usage};
 
 /// Flushes what was written, and answers the status, or that a write failed.
 fn finish<K: Sink>(sink: &mut K, written: Result<(), WriteFault>, status: Status) -> Status
@@ -29,6 +32,7 @@ fn finish<K: Sink>(sink: &mut K, written: Result<(), WriteFault>, status: Status
     ensures writes { (old : K) (text : List ℕ) → Sends K.written K.flushed K.faults text old sink.old written → Writes text status (K.written old) (K.written sink.new) (K.flushed sink.new) result }
     ensures failed { (old : K) (text : List ℕ) → Sends K.written K.flushed K.faults text old sink.old written → result ≡ Status.WriteFault → Rose (K.faults old) (K.faults sink.new) }
     ensures only { (result ≡ status) ⊎ (result ≡ Status.WriteFault) }
+    ensures told { IsErr written → result ≡ Status.WriteFault }
     ensures later { K.faults sink.old ≤ K.faults sink.new }
 {
     if written.is_err() {
@@ -58,18 +62,7 @@ fn refuse<K: Sink>(sink: &mut K, number: u32, cause: Cause) -> Ended
     Ended::only(finish(sink, written, Status::Refused))
 }
 
-/// The verdict of a section.
-fn verdict_of(answer: Settled) -> Verdict
-    ensures { result ≡ verdict_of answer }
-{
-    match answer {
-        Settled::Fixpoint => Verdict::Settled,
-        Settled::Empty => Verdict::Empty,
-        Settled::Spent(_) => Verdict::Spent,
-    }
-}
-
-/// The status of a run that writes a section whole.
+/// The status of a run whose last section has a verdict.
 fn status_of(verdict: Verdict) -> Status
     ensures { result ≡ status_of verdict }
 {
@@ -89,21 +82,21 @@ fn order_of(word: OrderWord) -> Order {
     }
 }
 
-/// What is handed out beside a status, over a section that was settled.
-fn handed(status: Status, end: SectionEnd, net: Net<AnyCtc>) -> Ended
-    requires { IsSettledOnly end.answer status }
+/// What is handed out beside a status, over the net of the last section.
+fn handed(status: Status, section: LastSection, net: Net<AnyCtc>) -> Ended
+    requires { IsSettledOnly section.end.answer status }
     ensures status { result.status ≡ status }
-    ensures spent { HandsWhere end.answer end.began net result.spent }
+    ensures spent { HandsWhere section.end.answer section.number section.end.began net result.spent }
     ensures net { HandsNetWhere status net result.net }
 {
-    if let Settled::Spent(ctc) = end.answer {
+    if let Settled::Spent(ctc) = section.end.answer {
         let store = net.into_store();
         return Ended {
             status,
             spent: Some(SpentAt {
-                section: 1,
+                section: section.number,
                 ctc,
-                began: end.began,
+                began: section.end.began,
                 now: store.measure(),
                 store,
             }),
@@ -121,7 +114,7 @@ fn handed(status: Status, end: SectionEnd, net: Net<AnyCtc>) -> Ended
     }
 }
 
-/// Settles the section of all records, and writes it.
+/// Settles the sections of a mission one after the other, and writes each.
 fn report<K: Sink, L: Ledger>(
     alloc: Global,
     asked: &Asked,
@@ -130,22 +123,24 @@ fn report<K: Sink, L: Ledger>(
     steps: &mut Steps<L>,
 ) -> Ended
     requires { IsMission mission.now }
-    ensures ends { Stops Status.NoMemory (K.written sink.old) (K.written sink.new) result ⊎ Reports mission.now asked.now (K.written sink.old) (K.written sink.new) (K.flushed sink.new) result }
+    ensures ends { Stops Status.NoMemory (K.written sink.old) (K.written sink.new) result ⊎ (RunsOut mission.now asked.now (K.written sink.old) (K.written sink.new) result ⊎ Reports mission.now asked.now (K.written sink.old) (K.written sink.new) (K.flushed sink.new) result) }
     ensures failed { result.status ≡ Status.WriteFault → Rose (K.faults sink.old) (K.faults sink.new) }
 {
-    let items = mission.items.as_slice().len();
-    let Ok(grid) = Grid::uniform(alloc, mission.ticks, mission.width) else {
+    let Ok(grid) = same_grid(alloc, &mission.cuts) else {
         return Ended::only(Status::NoMemory);
     };
     let mut net = Net::new(alloc, grid);
-    let order = order_of(asked.order);
-    let Ok(end) = next_section(mission, 0, items, &mut net, order, asked.budget, steps) else {
+    let choices = Choices {
+        order: order_of(asked.order),
+        budget: asked.budget,
+        brief: asked.brief,
+    };
+    let Ok(section) = write_sections(alloc, mission, choices, &mut net, sink, steps) else {
         return Ended::only(Status::NoMemory);
     };
-    let verdict = verdict_of(end.answer);
-    let written = write_section(mission, items, 1, verdict, net.store(), asked.brief, sink);
-    let status = finish(sink, written, status_of(verdict));
-    handed(status, end, net)
+    let planned = status_of(verdict_of(section.end.answer));
+    let status = finish(sink, section.written, planned);
+    handed(status, section, net)
 }
 
 /// Reads and judges the whole log, and writes its report, or the line of its fault.
@@ -157,6 +152,7 @@ fn solve<S: Source, K: Sink, L: Ledger>(
     steps: &mut Steps<L>,
 ) -> Ended
     ensures ends { Ends (Some asked.now) (S.left source.old) (K.written sink.old) (K.written sink.new) (K.flushed sink.new) result }
+    ensures enough { 2000000000000000 < asked.now.budget → result.status ≡ Status.Spent → ⊥ }
     ensures read { result.status ≡ Status.ReadFault → Rose (S.faults source.old) (S.faults source.new) }
     ensures write { result.status ≡ Status.WriteFault → Rose (K.faults sink.old) (K.faults sink.new) }
 {
@@ -171,8 +167,9 @@ fn solve<S: Source, K: Sink, L: Ledger>(
 /// Reads the words and the source, and writes the report, or the line of a fault or of the usage.
 ///
 /// The words are those after the program's name. With wrong words, and in a mode that is not built, the source is not read. Otherwise
-/// the whole source is read and judged before anything is written. Every record of an accepted log is built into one network, which is
-/// settled in the order and within the budget that the words ask for; then its section is written and the sink flushed.
+/// the whole source is read and judged before anything is written. The records of an accepted log are built into one network, section by
+/// section: each section is settled from the box of the one before, in the order and within the budget that the words ask for, and
+/// written. At the end the sink is flushed.
 pub fn run<S: Source, K: Sink, L: Ledger>(
     alloc: Global,
     words: &Words,
@@ -198,6 +195,13 @@ pub fn run<S: Source, K: Sink, L: Ledger>(
         → log_of bytes ≡ Err fault → IsRefusedOrStopped result.status }
     ensures reports { (asked : Asked) (bytes : List ℕ) (m : Mission) → built (asked_of words.now) ≡ Some asked → S.left source.old ≡ Some bytes
         → log_of bytes ≡ Ok m → IsReportedOrStopped result.status }
+
+    // Right words, an accepted log, no fault in the call and a budget above the measure at which each section starts give the whole
+    // report, or memory runs out. A budget above 2,000,000,000,000,000 is above every measure.
+    ensures complete { (asked : Asked) (bytes : List ℕ) (m : Mission) → built (asked_of words.now) ≡ Some asked → S.left source.old ≡ Some bytes
+        → log_of bytes ≡ Ok m → (Rose (S.faults source.old) (S.faults source.new) → ⊥) → (Rose (K.faults sink.old) (K.faults sink.new) → ⊥)
+        → StartsBelow m asked.budget → IsWholeOrNoMemory result.status }
+    ensures enough { (asked : Asked) → built (asked_of words.now) ≡ Some asked → 2000000000000000 < asked.budget → result.status ≡ Status.Spent → ⊥ }
 {
     let asked = match read_words(alloc, words) {
         Ok(asked) => asked,

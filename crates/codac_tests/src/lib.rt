@@ -5,6 +5,10 @@
 #[cfg(test)]
 mod net_dead_reckoning;
 #[cfg(test)]
+mod net_expressions;
+#[cfg(test)]
 mod net_localising;
 #[cfg(test)]
 mod run_missions;
+#[cfg(test)]
+mod run_sections;

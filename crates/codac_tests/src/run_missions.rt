@@ -9,9 +9,10 @@ use std::test::Fail;
 use step_count::Steps;
 use tube_io::{MemSink, MemSource, Sink, Source};
 
-const LOG: &[u8] = b"mission,1,10,5\nsignal,x,-1000,1000\nsignal,v,-20,20\nderiv,x,v\nat,x,0,0,0\n";
+pub const LOG: &[u8] =
+    b"mission,1,10,5\nsignal,x,-1000,1000\nsignal,v,-20,20\nderiv,x,v\nat,x,0,0,0\n";
 
-const REPORT: &[u8] =
+pub const REPORT: &[u8] =
     b"section 1 settled\nsignal x\ngate 0 0 0\nslice 0 5 -100 100\ngate 5 -100 100\nslice 5 10 -200 200\ngate 10 -200 200\nsignal v\ngate 0 -20 20\nslice 0 5 -20 20\ngate 5 -20 20\nslice 5 10 -20 20\ngate 10 -20 20\nend 1\n";
 
 // A run with a new counter of steps.
@@ -31,7 +32,7 @@ fn run_counted<S: Source, K: Sink, L: Ledger>(
 }
 
 // The status and the bytes of a run over a source and a sink that give and take at most so many bytes a call, of which these fail.
-fn ran(
+pub fn ran(
     alloc: Global,
     line: &str,
     log: &[u8],
@@ -47,7 +48,7 @@ fn ran(
     }
     let bytes = Vec::from_slice(alloc, log)?;
     let mut source = MemSource::new(bytes, most, Vec::from_slice(alloc, read_fails)?);
-    let mut sink = MemSink::<400>::new(most, Vec::from_slice(alloc, write_fails)?);
+    let mut sink = MemSink::<1000>::new(most, Vec::from_slice(alloc, write_fails)?);
     let ended = run_counted::<_, _, Brand>(alloc, &words, &mut source, &mut sink, Blank::new(1));
     Ok((ended.status, Vec::from_slice(alloc, sink.bytes())?))
 }
