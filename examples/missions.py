@@ -1,0 +1,236 @@
+#!/usr/bin/env python3
+"""Writes the missions of this folder: NAME.log, what the robot's sensors say, and NAME.truth, where it truly was.
+
+Each mission is made of a number, so that it can be made again: `examples/missions.py` writes all of them, byte for byte.
+NAME.truth has a line 'SIGNAL TICK VALUE' for each signal and tick, and a line 'VARIABLE - VALUE' for each named variable.
+"""
+import math
+import os
+
+HERE = os.path.dirname(os.path.abspath(__file__))
+
+
+class Draws:
+    """Numbers in a range, from a number: a linear congruential generator with 64 bits."""
+
+    def __init__(self, number):
+        self.state = number
+
+    def draw(self, lo, hi):
+        self.state = (self.state * 6364136223846793005 + 1442695040888963407) % 2**64
+        return lo + (self.state >> 33) % (hi - lo + 1)
+
+
+class Mission:
+    """The lines of a log, and the truth behind them."""
+
+    def __init__(self, name, ticks, width, title):
+        self.name, self.ticks = name, ticks
+        self.lines = ["# " + line for line in title] + [f"mission,1,{ticks},{width}"]
+        self.signals, self.variables = {}, {}
+
+    def add(self, *fields):
+        self.lines.append(",".join(str(field) for field in fields))
+
+    def note(self, text):
+        self.lines.append("# " + text)
+
+    def signal(self, name, lo, hi, values):
+        assert len(values) == self.ticks + 1 and all(lo <= value <= hi for value in values), name
+        self.signals[name] = values
+        self.add("signal", name, lo, hi)
+
+    def variable(self, name, lo, hi, value):
+        assert lo <= value <= hi, name
+        self.variables[name] = value
+        self.add("var", name, lo, hi)
+
+    def beacon(self, name, x, y, error):
+        self.variables[name + ".x"], self.variables[name + ".y"] = x, y
+        self.add("beacon", name, x - error, x + error, y - error, y + error)
+
+    def write(self):
+        with open(os.path.join(HERE, self.name + ".log"), "w") as log:
+            log.write("\n".join(self.lines) + "\n")
+        with open(os.path.join(HERE, self.name + ".truth"), "w") as truth:
+            for name, values in self.signals.items():
+                for tick, value in enumerate(values):
+                    truth.write(f"{name} {tick} {value}\n")
+            for name, value in self.variables.items():
+                truth.write(f"{name} - {value}\n")
+
+
+def walk(draws, ticks, every, speed, start=0):
+    """Rates that change at every so many ticks, and the positions that follow: what a signal gains from a tick to the next."""
+    rates, positions = [], [start]
+    for tick in range(ticks + 1):
+        rates.append(draws.draw(-speed, speed) if tick % every == 0 else rates[-1])
+    for tick in range(ticks):
+        positions.append(positions[-1] + rates[tick])
+    return rates, positions
+
+
+def ring(x, y, bx, by, error):
+    """Radii whose ring holds the distance, with an error of so much to either side."""
+    distance = math.isqrt((x - bx) ** 2 + (y - by) ** 2)
+    return max(0, distance - error), distance + 1 + error
+
+
+def measured_rates(mission, name, rates, every, error):
+    """A speed log: the rate of each stretch, measured with an error."""
+    for first in range(0, mission.ticks + 1, every):
+        last = min(first + every - 1, mission.ticks)
+        mission.add("bound", name, first, last, rates[first] - error, rates[first] + error)
+
+
+def survey():
+    """Five beacons at known places, and two hundred ranges at uncertain ticks."""
+    draws = Draws(18)
+    ticks, every = 1000, 50
+    mission = Mission("survey", ticks, 10, ["A survey between five beacons: 200 ranges, each at a tick known to 2 to either side."])
+    u, x = walk(draws, ticks, every, 20)
+    v, y = walk(draws, ticks, every, 20)
+    for name, values, bound in (("x", x, 50000), ("y", y, 50000), ("u", u, 25), ("v", v, 25)):
+        mission.signal(name, -bound, bound, values)
+    mission.add("deriv", "x", "u")
+    mission.add("deriv", "y", "v")
+    mission.add("at", "x", 0, 0, 0)
+    mission.add("at", "y", 0, 0, 0)
+    measured_rates(mission, "u", u, every, 1)
+    measured_rates(mission, "v", v, every, 1)
+    places = [(draws.draw(-9000, 9000), draws.draw(-9000, 9000)) for _ in range(5)]
+    for number, (bx, by) in enumerate(places):
+        mission.beacon(f"b{number}", bx, by, 2)
+    for number in range(200):
+        tick = 2 + 5 * number + draws.draw(-2, 2) if 0 < number < 199 else 2 + 5 * number
+        bx, by = places[number % 5]
+        near, far = ring(x[tick], y[tick], bx, by, 3)
+        mission.add("ping", "x", "y", max(0, tick - 2), min(ticks, tick + 2), f"b{number % 5}", near, far)
+    mission.write()
+
+
+def passage():
+    """Ranges to beacons that don't say who they are."""
+    draws = Draws(12)
+    ticks, every = 240, 40
+    mission = Mission("unknown_beacon", ticks, 5, ["A passage along three beacons that answer without a name: each range is to one of them."])
+    u, x = walk(draws, ticks, every, 15)
+    v, y = walk(draws, ticks, every, 15)
+    for name, values, bound in (("x", x, 8000), ("y", y, 8000), ("u", u, 20), ("v", v, 20)):
+        mission.signal(name, -bound, bound, values)
+    mission.add("deriv", "x", "u")
+    mission.add("deriv", "y", "v")
+    mission.add("at", "x", 0, -50, 50)
+    mission.add("at", "y", 0, -50, 50)
+    measured_rates(mission, "u", u, every, 1)
+    measured_rates(mission, "v", v, every, 1)
+    places = [(-900, 400), (700, -600), (300, 1500)]
+    for name, (bx, by) in zip("pqr", places):
+        mission.beacon(name, bx, by, 0)
+    for tick in range(20, ticks, 20):
+        bx, by = min(places, key=lambda place: (place[0] - x[tick]) ** 2 + (place[1] - y[tick]) ** 2)
+        near, far = ring(x[tick], y[tick], bx, by, 4)
+        mission.add("ping", "x", "y", tick, tick, "?", near, far)
+    mission.write()
+
+
+def depths():
+    """Depths that were noted at ticks that are not known."""
+    draws = Draws(9)
+    ticks, every = 200, 25
+    mission = Mission("depths", ticks, 5, ["Depths noted at uncertain ticks: a variable for the time and one for the depth, tied by 'eval'."])
+    w, z = walk(draws, ticks, every, 12, 3000)
+    mission.signal("depth", 0, 6000, z)
+    mission.signal("w", -15, 15, w)
+    mission.add("deriv", "depth", "w")
+    measured_rates(mission, "w", w, every, 2)
+    for number in range(1, 8):
+        tick = 25 * number + draws.draw(-6, 6)
+        mission.variable(f"t{number}", tick - draws.draw(0, 5), tick + draws.draw(0, 5), tick)
+        mission.variable(f"d{number}", z[tick] - 5, z[tick] + 5, z[tick])
+        mission.add("eval", "depth", f"t{number}", f"d{number}")
+    mission.write()
+
+
+def clocks():
+    """Two logs of one robot, whose clocks differ by an unknown delay."""
+    draws = Draws(10)
+    ticks, every = 100, 20
+    delay = 7
+    mission = Mission("two_clocks", ticks, 4, ["Two recorders of one depth: the second one is late by a delay from 3 to 12 ticks, which is not known."])
+    w, z = walk(draws, ticks, every, 30)
+    late = [draws.draw(-40, 40) for _ in range(delay)] + z[: ticks + 1 - delay]
+    mission.signal("first", -4000, 4000, z)
+    mission.signal("second", -4000, 4000, late)
+    mission.signal("w", -30, 30, w)
+    mission.add("deriv", "first", "w")
+    measured_rates(mission, "w", w, every, 1)
+    mission.add("at", "first", 0, z[0], z[0])
+    for tick in range(20, ticks + 1, 8):
+        mission.add("at", "second", tick, late[tick] - 3, late[tick] + 3)
+    mission.variable("d", 3, 12, delay)
+    mission.add("delay", "first", "second", "d")
+    mission.write()
+
+
+def robots():
+    """Two robots on one line that hear one another."""
+    draws = Draws(7)
+    ticks, every = 60, 15
+    mission = Mission("two_robots", ticks, 3, ["Two robots that keep within 300 millimetres of one another, as a formula that holds at every tick says."])
+    ua, ax = walk(draws, ticks, every, 10)
+    va, ay = walk(draws, ticks, every, 10)
+    bx = [value + draws.draw(-150, 150) for value in ax]
+    by = [value + draws.draw(-150, 150) for value in ay]
+    for name, values, bound in (("ax", ax, 2000), ("ay", ay, 2000), ("u", ua, 12), ("v", va, 12), ("bx", bx, 3000), ("by", by, 3000)):
+        mission.signal(name, -bound, bound, values)
+    mission.add("deriv", "ax", "u")
+    mission.add("deriv", "ay", "v")
+    mission.add("at", "ax", 0, 0, 0)
+    mission.add("at", "ay", 0, 0, 0)
+    measured_rates(mission, "u", ua, every, 1)
+    measured_rates(mission, "v", va, every, 1)
+    mission.add("expr", '"sqr(ax-bx)+sqr(ay-by)<=90000"')
+    mission.add("bound", "bx", 30, 30, bx[30] - 10, bx[30] + 10)
+    mission.write()
+
+
+def late_fix():
+    """A mission in sections: dead reckoning, then a fix at the end, then a range in the middle."""
+    draws = Draws(15)
+    ticks, every = 120, 30
+    mission = Mission("late_fix", ticks, 10, ["A fix that arrives late narrows the past: each 'settle' ends a section of the report, and the next one goes on from it."])
+    v, x = walk(draws, ticks, every, 20)
+    mission.signal("x", -5000, 5000, x)
+    mission.signal("v", -25, 25, v)
+    mission.add("deriv", "x", "v")
+    mission.add("at", "x", 0, 0, 0)
+    measured_rates(mission, "v", v, every, 4)
+    mission.add("settle")
+    mission.note("The fix at the end.")
+    mission.add("at", "x", ticks, x[ticks] - 5, x[ticks] + 5)
+    mission.add("settle")
+    mission.note("A measurement of the middle, found in the log of another instrument.")
+    mission.variable("t", 58, 62, 60)
+    mission.variable("z", x[60] - 20, x[60] + 20, x[60])
+    mission.add("eval", "x", "t", "z")
+    mission.write()
+
+
+def too_far():
+    """A range that no robot of this speed can have measured."""
+    mission = Mission("out_of_reach", 20, 5, ["No trajectory fits: the beacon is 5 metres away, the range at tick 20 says 100 millimetres, and the speed is at most 20 a tick."])
+    mission.lines += ["signal,x,-9000,9000", "signal,y,-9000,9000", "signal,u,-20,20", "signal,v,-20,20", "deriv,x,u", "deriv,y,v",
+                      "at,x,0,0,0", "at,y,0,0,0", "beacon,b,5000,5000,0,0", "ping,x,y,18,20,b,90,110"]
+    with open(os.path.join(HERE, mission.name + ".log"), "w") as log:
+        log.write("\n".join(mission.lines) + "\n")
+
+
+if __name__ == "__main__":
+    survey()
+    passage()
+    depths()
+    clocks()
+    robots()
+    late_fix()
+    too_far()
