@@ -83,21 +83,27 @@ def measured_rates(mission, name, rates, every, error):
         mission.add("bound", name, first, last, rates[first] - error, rates[first] + error)
 
 
+def moving(mission, draws, every, speed, reach, most, start):
+    """A robot in the plane: places x and y within a reach, rates u and v up to a most, a start known to so much, and a speed log."""
+    u, x = walk(draws, mission.ticks, every, speed)
+    v, y = walk(draws, mission.ticks, every, speed)
+    for name, values, bound in (("x", x, reach), ("y", y, reach), ("u", u, most), ("v", v, most)):
+        mission.signal(name, -bound, bound, values)
+    mission.add("deriv", "x", "u")
+    mission.add("deriv", "y", "v")
+    mission.add("at", "x", 0, -start, start)
+    mission.add("at", "y", 0, -start, start)
+    measured_rates(mission, "u", u, every, 1)
+    measured_rates(mission, "v", v, every, 1)
+    return x, y
+
+
 def survey():
     """Five beacons at known places, and two hundred ranges at uncertain ticks."""
     draws = Draws(18)
     ticks, every = 1000, 50
     mission = Mission("survey", ticks, 10, ["A survey between five beacons: 200 ranges, each at a tick known to 2 to either side."])
-    u, x = walk(draws, ticks, every, 20)
-    v, y = walk(draws, ticks, every, 20)
-    for name, values, bound in (("x", x, 50000), ("y", y, 50000), ("u", u, 25), ("v", v, 25)):
-        mission.signal(name, -bound, bound, values)
-    mission.add("deriv", "x", "u")
-    mission.add("deriv", "y", "v")
-    mission.add("at", "x", 0, 0, 0)
-    mission.add("at", "y", 0, 0, 0)
-    measured_rates(mission, "u", u, every, 1)
-    measured_rates(mission, "v", v, every, 1)
+    x, y = moving(mission, draws, every, 20, 50000, 25, 0)
     places = [(draws.draw(-9000, 9000), draws.draw(-9000, 9000)) for _ in range(5)]
     for number, (bx, by) in enumerate(places):
         mission.beacon(f"b{number}", bx, by, 2)
@@ -114,16 +120,7 @@ def passage():
     draws = Draws(12)
     ticks, every = 240, 40
     mission = Mission("unknown_beacon", ticks, 5, ["A passage along three beacons that answer without a name: each range is to one of them."])
-    u, x = walk(draws, ticks, every, 15)
-    v, y = walk(draws, ticks, every, 15)
-    for name, values, bound in (("x", x, 8000), ("y", y, 8000), ("u", u, 20), ("v", v, 20)):
-        mission.signal(name, -bound, bound, values)
-    mission.add("deriv", "x", "u")
-    mission.add("deriv", "y", "v")
-    mission.add("at", "x", 0, -50, 50)
-    mission.add("at", "y", 0, -50, 50)
-    measured_rates(mission, "u", u, every, 1)
-    measured_rates(mission, "v", v, every, 1)
+    x, y = moving(mission, draws, every, 15, 8000, 20, 50)
     places = [(-900, 400), (700, -600), (300, 1500)]
     for name, (bx, by) in zip("pqr", places):
         mission.beacon(name, bx, by, 0)
