@@ -1,30 +1,37 @@
 -- A record that is taken is one record more.
-use Rattle.std.proofs.Common.{◌≡◌, ℕ, Bool, true, false, ◌||◌, cond, List, [], ◌∷◌, ◌++◌, Result, Ok, Err, Option, Some, None, refl, sym, ap, ◌∙◌, subst, length, length-append, arith}
-use Rattle.std.specs.Prelude.{IfOk, ◌+◌, not, nat_le, nat_lt, ◌==◌, ◌-◌, take, drop}
+use Rattle.std.proofs.Common.{◌≡◌, Bool, true, false, cond, List, [], ◌∷◌, ◌++◌, Result, Ok, Err, Option, Some, None, refl, ap, ◌∙◌, length, length-append, arith}
+use Rattle.std.specs.Prelude.{IfOk, ◌+◌, not, nat_le, nat_lt, ◌==◌, take, drop}
 use Rattle.std.specs.List.{list_all}
 use Rattle.csv_rows.specs.Records.{Record}
 use Rattle.log_fields.specs.Fields.{field, tick_of}
-use Rattle.log_fields.specs.Kinds.{at_fields, beacon_fields, bound_fields, constell_fields, cut_fields, declared_fields, delay_fields, deriv_fields, eval_fields, mission_fields, ping_fields, range3_fields, range_fields, revisit_fields, settle_fields, text_fields}
+use Rattle.log_fields.specs.Kinds.{at_fields, beacon_fields, bound_fields, constell_fields, cut_fields, declared_fields, delay_fields, deriv_fields, eval_fields, mission_fields, range3_fields, range_fields, revisit_fields, settle_fields, text_fields}
 use Rattle.log_fields.specs.Steps.{◌>>=◌, unless}
 use Rattle.log_fields.specs.declared.fault.Cause.{Cause}
 use Rattle.log_fields.specs.declared.fault.Cause.TheVariants as cause
 use Rattle.log_spelling.specs.Kinds.{kind_of}
 use Rattle.log_spelling.specs.declared.kind.Kind.{Kind}
 use Rattle.log_spelling.specs.declared.kind.Kind.TheVariants as kind
-use Rattle.mission_items.specs.Made.{has_head, is_head, variable_range}
+use Rattle.mission_items.specs.Made.{has_head, variable_range}
 use Rattle.mission_items.specs.Names.{are_distinct}
 use Rattle.mission_items.specs.Valid.{is_variable, may_precede_cut, norm_in, revisits_in}
 use Rattle.mission_items.specs.declared.item.Item.{Item}
 use Rattle.mission_items.specs.declared.item.Item.TheVariants as item
 use Rattle.mission_items.specs.declared.mission.Mission.{Mission}
 use Rattle.mission_log.specs.Log.{added, at_step, beacon_step, bound_step, constell_step, cut_step, delay_step, deriv_step, each_step, eval_step, in_mission, is_note_record, kind_step, mission_step, ping_said, ping_step, range3_step, range_step, record_step, revisit_step, settle_step, signal_step, single_step, started, step, variable_step, with_item}
-use Rattle.mission_log.specs.Found.{beacon_in, declaration_in, declarations_in, formula_in, has_values, leaves_for, mark_declared, mark_in, new_name, references_of, signal_in, variable_in, variables_for}
+use Rattle.mission_log.specs.Found.{declaration_in, declarations_in, formula_in, has_values, leaves_for, new_name, references_of, signal_in, variable_in, variables_for}
 use Rattle.mission_log.specs.Room.{has_mark, is_narrow, room_for}
-use Rattle.mission_log.proofs.Records.{head-last, or_true}
+
+-- a mission with one record more than these
+pub record Grows (items : List Item) (e : Mission) : Type 0 where
+  pub item : Item
+  pub all : e.items ≡ items ++ item ∷ []
+
+pub one_longer : (d e : Mission) → Grows d.items e → length e.items ≡ length d.items + 1
+one_longer d e more = ap length more.all ∙ (length-append d.items (more.item ∷ []) ∙ omega arith)
 
 -- where a step finds no cause, the mission has one record more
-abbrev Adds : Mission → Result Mission Cause → Type 0
-Adds d s = IfOk s (λ e. length e.items ≡ length d.items + 1)
+abbrev pub Adds : Mission → Result Mission Cause → Type 0
+Adds d s = IfOk s (Grows d.items)
 
 -- whatever the steps before it gave
 then : {A : Type 0} (d : Mission) (s : Result A Cause) (f : A → Result Mission Cause) → ((x : A) → Adds d (f x)) → Adds d (s >>= f)
@@ -32,7 +39,7 @@ then d (Ok x) f h = h x
 then d (Err c) f h = tt
 
 stays : (d : Mission) (i : Item) → Adds d (Ok (with_item i d))
-stays d i = length-append d.items (i ∷ []) ∙ omega arith
+stays d i = record { item = i; all = refl }
 
 added_adds : (d : Mission) (i : Item) → Adds d (added d i)
 added_adds d i = then d (room_for d i) (λ room. Ok (with_item i d)) (λ room. stays d i)
@@ -127,7 +134,7 @@ unfolding settle_step
 settle_adds d r =
     then d (settle_fields r) _ (λ f. added_adds d item.Settle)
 
-kind_adds : (d : Mission) (r : Record) (k : Option Kind) → Adds d (kind_step d r k)
+pub kind_adds : (d : Mission) (r : Record) (k : Option Kind) → Adds d (kind_step d r k)
 unfolding kind_step
 kind_adds d r None = tt
 kind_adds d r (Some kind.Mission) = mission_adds d r
@@ -149,33 +156,22 @@ kind_adds d r (Some kind.Exprv) = single_adds d r
 kind_adds d r (Some kind.Revisit) = revisit_adds d r
 kind_adds d r (Some kind.Settle) = settle_adds d r
 
-inside : (d : Mission) (s : Result Mission Cause) → Adds d s → Adds d (in_mission d s)
-inside d s h = choose (has_head d.items)
+-- a mission record is taken at any place, and what holds of it and of each other kind holds of a record
+pub record_by : (P : Result Mission Cause → Type 0) (d : Mission) (r : Record) (k : Option Kind) → P (mission_step d r) → P (in_mission d (kind_step d r k)) → P (record_step d r k)
+unfolding kind_step
+record_by P d r (Some kind.Mission) first other = first
+record_by P d r k first other = other
+
+-- where a mission record stands before, and where none does
+pub inside : (P : Result Mission Cause → Type 0) (d : Mission) (s : Result Mission Cause) → P (Err cause.NoMission) → (has_head d.items ≡ true → P s) → P (in_mission d s)
+inside P d s none some = choose (has_head d.items) some
   where
-    choose : (b : Bool) → Adds d (cond b s (Err cause.NoMission))
-    choose true = h
-    choose false = tt
+    choose : (b : Bool) → (b ≡ true → P s) → P (cond b s (Err cause.NoMission))
+    choose true h = h refl
+    choose false h = none
 
 record_adds : (d : Mission) (r : Record) (k : Option Kind) → Adds d (record_step d r k)
-record_adds d r (Some kind.Mission) = kind_adds d r (Some kind.Mission)
-record_adds d r (Some kind.Cut) = inside d (kind_step d r (Some kind.Cut)) (kind_adds d r (Some kind.Cut))
-record_adds d r (Some kind.Signal) = inside d (kind_step d r (Some kind.Signal)) (kind_adds d r (Some kind.Signal))
-record_adds d r (Some kind.Variable) = inside d (kind_step d r (Some kind.Variable)) (kind_adds d r (Some kind.Variable))
-record_adds d r (Some kind.Beacon) = inside d (kind_step d r (Some kind.Beacon)) (kind_adds d r (Some kind.Beacon))
-record_adds d r (Some kind.Deriv) = inside d (kind_step d r (Some kind.Deriv)) (kind_adds d r (Some kind.Deriv))
-record_adds d r (Some kind.Bound) = inside d (kind_step d r (Some kind.Bound)) (kind_adds d r (Some kind.Bound))
-record_adds d r (Some kind.At) = inside d (kind_step d r (Some kind.At)) (kind_adds d r (Some kind.At))
-record_adds d r (Some kind.Eval) = inside d (kind_step d r (Some kind.Eval)) (kind_adds d r (Some kind.Eval))
-record_adds d r (Some kind.Delay) = inside d (kind_step d r (Some kind.Delay)) (kind_adds d r (Some kind.Delay))
-record_adds d r (Some kind.Range) = inside d (kind_step d r (Some kind.Range)) (kind_adds d r (Some kind.Range))
-record_adds d r (Some kind.Range3) = inside d (kind_step d r (Some kind.Range3)) (kind_adds d r (Some kind.Range3))
-record_adds d r (Some kind.Constell) = inside d (kind_step d r (Some kind.Constell)) (kind_adds d r (Some kind.Constell))
-record_adds d r (Some kind.Ping) = inside d (kind_step d r (Some kind.Ping)) (kind_adds d r (Some kind.Ping))
-record_adds d r (Some kind.Expr) = inside d (kind_step d r (Some kind.Expr)) (kind_adds d r (Some kind.Expr))
-record_adds d r (Some kind.Exprv) = inside d (kind_step d r (Some kind.Exprv)) (kind_adds d r (Some kind.Exprv))
-record_adds d r (Some kind.Revisit) = inside d (kind_step d r (Some kind.Revisit)) (kind_adds d r (Some kind.Revisit))
-record_adds d r (Some kind.Settle) = inside d (kind_step d r (Some kind.Settle)) (kind_adds d r (Some kind.Settle))
-record_adds d r None = inside d (kind_step d r None) (kind_adds d r None)
+record_adds d r k = record_by (Adds d) d r k (mission_adds d r) (inside (Adds d) d (kind_step d r k) tt (λ h. kind_adds d r k))
 
 pub step_adds : (d : Mission) (r : Record) → Adds d (step d r)
 unfolding step

@@ -1,5 +1,5 @@
 -- The names of formulas, and their leaves and ranges.
-use Rattle.std.proofs.Common.{◌≡◌, ℕ, ◌+◌, ◌≤◌, Bool, true, false, ◌&&◌, List, [], ◌∷◌, ◌++◌, Option, Some, None, Result, Ok, Err, length, map, take, drop, refl, sym, ap, ap₂, ◌∙◌, subst, suc, arith}
+use Rattle.std.proofs.Common.{◌≡◌, ℕ, ◌+◌, ◌≤◌, Bool, true, false, ◌&&◌, List, [], ◌∷◌, Option, Some, None, Result, Ok, Err, map, take, drop, refl, sym, ap, ap₂, ◌∙◌, subst, suc, arith}
 use Rattle.std.specs.Prelude.{All, is_some, option_and_then, option_map}
 use Rattle.std.proofs.lemmas.List.{drop-map, take-map}
 use Rattle.tube_spec.specs.Span.{Span}
@@ -9,7 +9,7 @@ use Rattle.log_spelling.specs.References.{bare_name, part_of}
 use Rattle.log_spelling.specs.declared.reference.Part.{Part}
 use Rattle.log_spelling.specs.declared.reference.Part.TheVariants as part
 use Rattle.expr_tree.specs.Trees.{Tree, Number, Named, Apply, Join, Relation}
-use Rattle.expr_tree.specs.Measures.{nodes, relation_names, relation_nodes}
+use Rattle.expr_tree.specs.Measures.{nodes, relation_names}
 use Rattle.expr_text.specs.Spellable.{IsPrintable}
 use Rattle.expr_hc4.specs.declared.places.Leaf.{Leaf}
 use Rattle.expr_hc4.specs.declared.places.Leaf.TheVariants.{Sig, Var}
@@ -19,14 +19,14 @@ use Rattle.log_fields.specs.Steps.{◌>>=◌, found_or}
 use Rattle.log_fields.specs.declared.fault.Cause.{Cause}
 use Rattle.log_fields.specs.declared.fault.Cause.TheVariants as cause
 use Rattle.formula_text.specs.Readings.{Deep, Text, TextCause, reading_of}
-use Rattle.mission_items.specs.Names.{declaration_of, leaf_at, leaf_of, leaf_range, range_of, signal_of, variable_of}
-use Rattle.mission_items.specs.Valid.{HasValues, IsFormula}
+use Rattle.mission_items.specs.Names.{declaration_of, leaf_at, leaf_of, leaf_range, range_of, variable_of}
+use Rattle.mission_items.specs.Valid.{IsFormula}
 use Rattle.mission_items.specs.declared.decl.Decl.{Decl}
 use Rattle.mission_items.specs.declared.decl.Decl.TheVariants as decl
 use Rattle.mission_items.specs.declared.item.Item.{Item}
 use Rattle.mission_items.proofs.Standing.{signal-found, variable-found}
-use Rattle.mission_log.specs.Found.{declarations_in, declared_part, each, formula_in, has_values, have_values, leaf_in, leaves_for, reference_in, references_of, relation_in}
-use Rattle.mission_log.specs.Kept.{IsKnown, IsMeant, meant, range_meant}
+use Rattle.mission_log.specs.Found.{declarations_in, declared_part, each, formula_in, has_values, leaf_in, leaves_for, reference_in, references_of, relation_in}
+use Rattle.mission_log.specs.Meant.{IsMeant, meant, range_meant}
 use Rattle.mission_log.specs.declared.meant.Meant.{Meant}
 
 -- ---- texts

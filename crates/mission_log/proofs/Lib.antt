@@ -1,5 +1,3 @@
-pub mod Records
-pub mod Keeping
 pub mod Each
 pub mod LeavesStand
 pub mod Heads

@@ -11,7 +11,7 @@ use Rattle.tube_store.specs.declared.VarId.{VarId}
 use Rattle.log_fields.specs.Fields as fields
 use Rattle.mission_items.specs.Made.{beacons_in, signals_in}
 use Rattle.mission_items.specs.Names.{IsNamed, are_distinct}
-use Rattle.mission_items.specs.Valid.{AreRadii, IsMark, IsRight}
+use Rattle.mission_items.specs.Valid.{IsMark, IsRight}
 use Rattle.mission_items.specs.declared.item.Item.{Item}
 use Rattle.mission_items.specs.declared.item.Item.TheVariants as item
 use Rattle.mission_log.specs.Room.{has_mark}

@@ -1,6 +1,5 @@
 -- A log is refused at the first record that has a cause.
-use Rattle.std.proofs.Common.{◌≡◌, ℕ, zero, suc, ◌+◌, ◌≤◌, Bool, true, false, cond, List, [], ◌∷◌, Result, Ok, Err, length, take, drop, refl, sym, ap, ◌∙◌, subst, arith, nat_lt}
-use Rattle.std.specs.Prelude.{IfOk}
+use Rattle.std.proofs.Common.{◌≡◌, ℕ, suc, ◌+◌, Bool, true, false, cond, List, [], ◌∷◌, Result, Ok, Err, length, take, drop, refl, ap, ◌∙◌, subst, arith, nat_lt}
 use Rattle.std.specs.List.{list_all}
 use Rattle.csv_rows.specs.Records.{Record, records_of}
 use Rattle.log_fields.specs.declared.fault.Cause.{Cause}
@@ -8,7 +7,7 @@ use Rattle.log_fields.specs.declared.fault.Cause.TheVariants as cause
 use Rattle.mission_items.specs.declared.mission.Mission.{Mission}
 use Rattle.mission_log.specs.Laws.{IsFirstCause}
 use Rattle.mission_log.specs.Log.{after, is_note_record, log_by, log_from, log_of, nothing_yet, step}
-use Rattle.mission_log.proofs.Adding.{step_adds}
+use Rattle.mission_log.proofs.Adding.{Adds, one_longer, step_adds}
 
 -- the number and the cause that are told
 number_told : Result Mission (ℕ × Cause) → ℕ
@@ -19,7 +18,7 @@ cause_told : Result Mission (ℕ × Cause) → Cause
 cause_told (Ok mission) = cause.Kind
 cause_told (Err fault) = fault.1
 
-same_number : (n m : ℕ) (c d : Cause) → ◌≡◌ {A = Result Mission (ℕ × Cause)} (Err (n, c)) (Err (m, d)) → n ≡ m
+pub same_number : (n m : ℕ) (c d : Cause) → ◌≡◌ {A = Result Mission (ℕ × Cause)} (Err (n, c)) (Err (m, d)) → n ≡ m
 unfolding number_told
 same_number n m c d e = ap number_told e
 
@@ -51,11 +50,11 @@ one_more d e r rs number cause goes size f = record {
   finds = f.finds;
 }
 
-told_after : (d : Mission) (r : Record) (rs : List Record) (number : ℕ) (cause : Cause) (s : Result Mission Cause) → step d r ≡ s → IfOk s (λ e. length e.items ≡ length d.items + 1)
+told_after : (d : Mission) (r : Record) (rs : List Record) (number : ℕ) (cause : Cause) (s : Result Mission Cause) → step d r ≡ s → Adds d s
     → ((e : Mission) → log_from e rs ≡ Err (suc number, cause) → IsFirstAfter e rs number cause) → after d s (λ e. log_from e rs) ≡ Err (suc number, cause) → IsFirstAfter d (r ∷ rs) number cause
 unfolding log_from
-told_after d r rs number cause (Ok e) goes size more h = one_more d e r rs number cause goes size (more e h)
-told_after d r rs number cause (Err c) goes size more h =
+told_after d r rs number cause (Ok e) goes one more h = one_more d e r rs number cause goes (one_longer d e one) (more e h)
+told_after d r rs number cause (Err c) goes one more h =
     let count = same_number (length d.items + 1) (suc number) c cause h in record {
       skipped = 0;
       sum = omega (arith, count);
@@ -76,7 +75,7 @@ by_notes : (all : Bool) (log : Result Mission (ℕ × Cause)) (n : ℕ) (c : Cau
 by_notes true log n c h = absurd (let none : 0 ≡ suc n = same_number 0 (suc n) cause.NoMission c h in omega arith)
 by_notes false log n c h = h
 
-by_length : (too_long : Bool) (log : Result Mission (ℕ × Cause)) (n : ℕ) (c : Cause) → cond too_long (Err (0, cause.LogTooLong)) log ≡ Err (suc n, c) → log ≡ Err (suc n, c)
+pub by_length : (too_long : Bool) (log : Result Mission (ℕ × Cause)) (n : ℕ) (c : Cause) → cond too_long (Err (0, cause.LogTooLong)) log ≡ Err (suc n, c) → log ≡ Err (suc n, c)
 by_length true log n c h = absurd (let none : 0 ≡ suc n = same_number 0 (suc n) cause.LogTooLong c h in omega arith)
 by_length false log n c h = h
 

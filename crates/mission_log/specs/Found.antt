@@ -1,7 +1,6 @@
 -- What the names and the formula of a record stand for, by a search of the records before it, or the lowest cause that they have.
-use Rattle.std.specs.Prelude.{ℕ, ◌&&◌, not, Bool, List, [], ◌∷◌, ◌++◌, Option, Some, None, is_some, Result, Ok, Err, map, take, drop}
+use Rattle.std.specs.Prelude.{ℕ, ◌&&◌, Bool, List, [], ◌∷◌, ◌++◌, Option, Some, None, is_some, Result, Ok, Err, map, take, drop}
 use Rattle.tube_spec.specs.Span.{Span}
-use Rattle.tube_store.specs.declared.SignalId.{SignalId}
 use Rattle.tube_store.specs.declared.VarId.{VarId}
 use Rattle.log_spelling.specs.References.{bare_name, part_of}
 use Rattle.log_spelling.specs.declared.reference.Part.{Part}
@@ -11,31 +10,13 @@ use Rattle.expr_values.specs.Expressions.{leaves, numbered}
 use Rattle.expr_values.specs.Values.{range_value}
 use Rattle.expr_hc4.specs.declared.places.Leaf.{Leaf}
 use Rattle.formula_text.specs.Readings.{Deep, Text, TextCause, reading_of}
-use Rattle.log_fields.specs.Steps.{◌>>=◌, found_or, unless}
+use Rattle.log_fields.specs.Steps.{◌>>=◌, found_or}
 use Rattle.log_fields.specs.declared.fault.Cause.{Cause}
 use Rattle.log_fields.specs.declared.fault.Cause.TheVariants as cause
-use Rattle.mission_items.specs.Names.{beacon_of, declaration_of, leaf_of, leaf_range, signal_of, variable_of}
+use Rattle.mission_items.specs.Names.{leaf_of, leaf_range}
 use Rattle.mission_items.specs.declared.decl.Decl.{Decl}
 use Rattle.mission_items.specs.declared.item.Item.{Item}
-
--- ---- one name
-
--- a name that is declared now
-abbrev pub new_name : List Item → List ℕ → Result (Unit {0}) Cause
-new_name items name = unless (not (is_some (declaration_of name items))) cause.Twice
-
--- what a name is declared as
-abbrev pub declaration_in : List Item → List ℕ → Result Decl Cause
-declaration_in items name = found_or (declaration_of name items) cause.Unknown
-
-abbrev pub signal_in : Decl → Result SignalId Cause
-signal_in d = found_or (signal_of d) cause.WrongKind
-
-abbrev pub variable_in : Decl → Part → Result VarId Cause
-variable_in d part = found_or (variable_of d part) cause.WrongKind
-
-abbrev pub beacon_in : Decl → Result ℕ Cause
-beacon_in d = found_or (beacon_of d) cause.WrongKind
+pub use Rattle.log_draft.specs.Names.{beacon_in, declaration_in, new_name, signal_in, variable_in}
 
 -- ---- the beacon of a ping, which may be any of those before
 

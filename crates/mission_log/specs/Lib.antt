@@ -1,5 +1,5 @@
 pub mod Found
-pub mod Kept
+pub mod Meant
 pub mod Room
 pub mod Log
 pub mod Laws

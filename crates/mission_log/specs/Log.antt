@@ -1,26 +1,24 @@
 -- What a log says: a mission, or the earliest record with a cause, and its lowest cause.
-use Rattle.std.specs.Prelude.{◌≡◌, ℕ, ◌+◌, ◌-◌, ◌==◌, ◌&&◌, not, nat_le, nat_lt, Bool, true, false, List, [], ◌∷◌, ◌++◌, length, take, drop, Option, Some, None, Result, Ok, Err, ℤ, if◌then◌else◌}
+use Rattle.std.specs.Prelude.{◌≡◌, ℕ, ◌+◌, ◌-◌, ◌==◌, not, nat_le, nat_lt, Bool, List, [], ◌∷◌, length, take, drop, Option, Some, None, Result, Ok, Err, ℤ, if◌then◌else◌}
 use Rattle.std.specs.List.{list_all}
 use Rattle.csv_rows.specs.Records.{Record, records_of}
 use Rattle.log_spelling.specs.Blanks.{is_note}
 use Rattle.log_spelling.specs.Kinds.{kind_of}
 use Rattle.log_spelling.specs.declared.kind.Kind.{Kind}
 use Rattle.log_spelling.specs.declared.kind.Kind.TheVariants as kind
-use Rattle.slice_gates.specs.Cuts.{uniform_cuts}
 use Rattle.tube_store.specs.declared.SignalId.{SignalId}
 use Rattle.log_fields.specs.Fields.{field, tick_of}
 use Rattle.log_fields.specs.Kinds.{at_fields, beacon_fields, bound_fields, constell_fields, cut_fields, declared_fields, delay_fields, deriv_fields, eval_fields, mission_fields, ping_fields, range3_fields, range_fields, revisit_fields, settle_fields, text_fields}
 use Rattle.log_fields.specs.Steps.{◌>>=◌, unless}
 use Rattle.log_fields.specs.declared.fault.Cause.{Cause}
 use Rattle.log_fields.specs.declared.fault.Cause.TheVariants as cause
-use Rattle.mission_items.specs.Cuts.{with_cut}
 use Rattle.mission_items.specs.Made.{has_head, variable_range}
 use Rattle.mission_items.specs.Names.{are_distinct}
 use Rattle.mission_items.specs.Valid.{is_variable, may_precede_cut, norm_in, revisits_in}
-use Rattle.mission_items.specs.declared.item.Item.{Item}
 use Rattle.mission_items.specs.declared.item.Item.TheVariants as item
 use Rattle.mission_items.specs.declared.mission.Mission.{Mission}
-use Rattle.mission_log.specs.Found.{beacon_in, declaration_in, declarations_in, formula_in, has_values, leaves_for, mark_declared, mark_in, new_name, references_of, signal_in, variable_in, variables_for}
+pub use Rattle.log_draft.specs.Growing.{added, nothing_yet, started, with_item}
+use Rattle.mission_log.specs.Found.{declaration_in, declarations_in, formula_in, has_values, leaves_for, mark_declared, mark_in, new_name, references_of, signal_in, variable_in, variables_for}
 use Rattle.mission_log.specs.Room.{has_mark, is_narrow, room_for}
 use Rattle.mission_log.specs.declared.fault.LogFault.{LogFault}
 use Rattle.mission_log.specs.declared.fault.LogFault.TheVariants as fault
@@ -30,24 +28,7 @@ use Rattle.mission_log.specs.declared.fault.LogFault.TheVariants as fault
 -- the room (Cells, Foot, Records), NoBeacon, Same, Queries, Plane, LateCut. Where a text is no relation within the limits (Text, Deep),
 -- its names and values are not asked for.
 
-abbrev pub nothing_yet : Mission
-nothing_yet = record { version = 0; ticks = 0; width = 0; cuts = []; items = [] }
-
--- the mission with one record more; a cut adds its boundary
-abbrev pub with_item : Item → Mission → Mission
-with_item i d = record d { cuts = with_cut d.cuts i; items = d.items ++ i ∷ [] }
-
--- the mission with one record more, where it fits
-abbrev pub added : Mission → Item → Result Mission Cause
-added d i = do
-  room ← room_for d i
-  Ok (with_item i d)
-
 -- ---- mission,V,T,w and cut,t
-
--- a version, and slices of one width
-abbrev pub started : ℕ × ℕ × ℕ → Mission → Mission
-started clock d = record { version = clock.0; ticks = clock.1; width = clock.2; cuts = uniform_cuts clock.1 clock.2; items = d.items }
 
 unfoldable pub mission_step : Mission → Record → Result Mission Cause
 mission_step d r = do

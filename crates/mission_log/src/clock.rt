@@ -6,8 +6,8 @@ ghost use Rattle.log_fields.specs.Steps.{Gives};
 ghost use Rattle.mission_items.specs.Made.{has_head};
 ghost use Rattle.mission_log.specs.Log.{cut_step, mission_step};
 
-use crate::draft::Draft;
 use csv::ByteRecord;
+use log_draft::Draft;
 use log_fields::clock::{cut_fields, mission_fields};
 use log_fields::fields::ensure;
 use log_fields::{Cause, Stop};

@@ -6,8 +6,8 @@ ghost use Rattle.log_fields.specs.Steps.{Gives};
 ghost use Rattle.mission_items.specs.Made.{has_head};
 ghost use Rattle.mission_log.specs.Log.{beacon_step, signal_step, variable_step};
 
-use crate::draft::Draft;
 use csv::ByteRecord;
+use log_draft::Draft;
 use log_fields::Stop;
 use log_fields::declaring::{beacon_fields, declared_fields};
 use mission_items::{Decl, Item};

@@ -8,9 +8,7 @@
 #![tactic(auto)]
 
 mod clock;
-mod counts;
 mod declaring;
-mod draft;
 mod fault;
 mod formulas;
 pub mod laws;
@@ -26,6 +24,3 @@ pub use fault::LogFault;
 pub use log_fields::Cause;
 pub use mission_items::{Decl, Item, Items, Mission};
 pub use read::read_log;
-
-#[cfg(test)]
-mod tests;

@@ -8,7 +8,7 @@ use log_spelling::Part;
 use mission_items::Decl;
 
 /// What a name is declared as, and the part of it that is meant.
-#[derive(Clone, Copy, Debug, PartialEq, Eq)]
+#[derive(Clone, Copy)]
 pub struct Meant {
     pub declared: Decl,
     pub part: Part,

@@ -6,12 +6,13 @@ ghost use Rattle.log_fields.specs.Steps.{Gives};
 ghost use Rattle.mission_items.specs.Made.{beacons_in, has_head, signals_in, ticks_from};
 ghost use Rattle.mission_items.specs.Room.{evaluated, mark_foot};
 ghost use Rattle.mission_log.specs.Found.{mark_declared, mark_in};
-ghost use Rattle.mission_log.specs.Kept.{IsKnown, IsPing};
+ghost use Rattle.log_draft.specs.Kept.{IsKnown};
+ghost use Rattle.mission_log.specs.Meant.{IsPing};
 ghost use Rattle.mission_log.specs.Log.{ping_said, ping_step};
 ghost use Rattle.mission_log.specs.Room.{has_mark};
 
-use crate::draft::Draft;
 use csv::ByteRecord;
+use log_draft::Draft;
 use log_fields::fields::ensure;
 use log_fields::points::ping_fields;
 use log_fields::{Cause, Stop};
@@ -22,7 +23,7 @@ use tube_store::SignalId;
 
 /// What a ping says: the signals of a place, the first and the last tick, the place of the beacon among the beacons, if one is named,
 /// and the least and the greatest distance in millimetres.
-#[derive(Clone, Copy, Debug, PartialEq, Eq)]
+#[derive(Clone, Copy)]
 pub struct PingSaid {
     pub x: SignalId,
     pub y: SignalId,

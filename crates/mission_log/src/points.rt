@@ -9,13 +9,14 @@ ghost use Rattle.mission_items.specs.Made.{beacons_in, has_head, signals_in, tic
 ghost use Rattle.mission_items.specs.Names.{IsNamed, are_distinct};
 ghost use Rattle.mission_items.specs.Room.{evaluated, mark_foot};
 ghost use Rattle.mission_log.specs.Found.{declarations_in, mark_declared, mark_in, variables_for};
-ghost use Rattle.mission_log.specs.Kept.{IsKnown, IsMeant, meant};
+ghost use Rattle.log_draft.specs.Kept.{IsKnown};
+ghost use Rattle.mission_log.specs.Meant.{IsMeant, meant};
 ghost use Rattle.mission_log.specs.Log.{constell_step, ping_step, range3_step, range_step};
 ghost use Rattle.mission_log.specs.Room.{has_mark};
 
-use crate::draft::Draft;
 use crate::meant::Meant;
 use csv::ByteRecord;
+use log_draft::Draft;
 use log_fields::fields::ensure;
 use log_fields::points::{constell_fields, ping_fields, range_fields, range3_fields};
 use log_fields::{Cause, Reference, Stop};

@@ -7,9 +7,9 @@ ghost use Rattle.mission_items.specs.Made.{has_head};
 ghost use Rattle.mission_items.specs.Valid.{norm_in};
 ghost use Rattle.mission_log.specs.Log.{revisit_step, settle_step};
 
-use crate::draft::Draft;
 use csv::ByteRecord;
 use hull_tree::{Norm, Query};
+use log_draft::Draft;
 use log_fields::fields::ensure;
 use log_fields::texts::{revisit_fields, settle_fields};
 use log_fields::{Cause, Stop};

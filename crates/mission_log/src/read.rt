@@ -7,11 +7,11 @@ ghost use Rattle.mission_items.specs.Made.{has_head};
 ghost use Rattle.mission_items.specs.Valid.{IsMission};
 ghost use Rattle.mission_log.specs.Log.{IsLog, is_note_record, log_by, log_from, log_of, nothing_yet};
 
-use crate::draft::Draft;
 use crate::fault::LogFault;
 use crate::take::take;
 use csv::ByteRecord;
 use csv_rows::Rows;
+use log_draft::Draft;
 use log_fields::fields::field;
 use log_fields::{Cause, Stop};
 use log_spelling::is_note;

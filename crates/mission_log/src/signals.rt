@@ -6,9 +6,9 @@ ghost use Rattle.log_fields.specs.Steps.{Gives};
 ghost use Rattle.mission_items.specs.Made.{has_head};
 ghost use Rattle.mission_log.specs.Log.{at_step, bound_step, delay_step, deriv_step, eval_step};
 
-use crate::draft::Draft;
 use crate::meant::range_of;
 use csv::ByteRecord;
+use log_draft::Draft;
 use log_fields::fields::ensure;
 use log_fields::signals::{at_fields, bound_fields, delay_fields, deriv_fields, eval_fields};
 use log_fields::{Cause, Stop};

@@ -8,13 +8,13 @@ ghost use Rattle.mission_log.specs.Log.{kind_step, record_step, step};
 
 use crate::clock::{take_cut, take_mission};
 use crate::declaring::{take_beacon, take_signal, take_variable};
-use crate::draft::Draft;
 use crate::formulas::{take_each, take_single};
 use crate::ping::take_ping;
 use crate::points::{take_constell, take_range, take_range3};
 use crate::questions::{take_revisit, take_settle};
 use crate::signals::{take_at, take_bound, take_delay, take_deriv, take_eval};
 use csv::ByteRecord;
+use log_draft::Draft;
 use log_fields::fields::{ensure, field};
 use log_fields::{Cause, Stop};
 use log_spelling::{Kind, is_note};

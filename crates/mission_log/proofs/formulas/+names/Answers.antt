@@ -1,4 +1,4 @@
-use Rattle.std.proofs.Common.{◌∙◌, ap, map, subst, sym, List, Result}
+use Rattle.std.proofs.Common.{◌∙◌, map, subst, sym, List, Result}
 use Rattle.expr_tree.specs.Measures.{names}
 use Rattle.expr_tree.specs.Trees.{tree_of}
 use Rattle.log_spelling.specs.declared.reference.Part.{Part}
@@ -6,7 +6,7 @@ use Rattle.log_fields.specs.Steps.{Stops}
 use Rattle.log_fields.specs.declared.fault.Cause.{Cause}
 use Rattle.mission_items.specs.declared.decl.Decl.{Decl}
 use Rattle.mission_log.specs.Found.{declared_part, reference_in}
-use Rattle.mission_log.specs.Kept.{meant}
+use Rattle.mission_log.specs.Meant.{meant}
 use Rattle.mission_log.proofs.Each.{both-goes, both-stops}
 use Rattle.mission_log.proofs.formulas.+names.Goals as goal
 

@@ -3,7 +3,7 @@ use Rattle.log_fields.specs.Steps.{Gives, unless}
 use Rattle.log_fields.specs.declared.fault.Cause.TheVariants as cause
 use Rattle.mission_items.specs.Valid.{IsFormula}
 use Rattle.mission_log.specs.Found.{has_values, have_values}
-use Rattle.mission_log.specs.Kept.{meant}
+use Rattle.mission_log.specs.Meant.{meant}
 use Rattle.mission_log.proofs.Each.{passes}
 use Rattle.mission_log.proofs.LeavesStand.{formula-right, ranges-stand}
 use Rattle.mission_log.proofs.formulas.ensure_values.Goals as goal

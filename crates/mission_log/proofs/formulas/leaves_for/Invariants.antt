@@ -1,6 +1,6 @@
 use Rattle.std.proofs.Common.{◌≡◌, drop, length, map}
 use Rattle.mission_log.specs.Found.{appended, each, leaf_in}
-use Rattle.mission_log.specs.Kept.{meant}
+use Rattle.mission_log.specs.Meant.{meant}
 use Rattle.mission_log.proofs.formulas.leaves_for.Given as goal
 
 abbrev pub invariant-loop-m : goal.invariant-loop-m

@@ -1,5 +1,5 @@
 use Rattle.std.proofs.Common.{◌≡◌, map, take}
-use Rattle.mission_log.specs.Kept.{range_meant}
+use Rattle.mission_log.specs.Meant.{range_meant}
 use Rattle.mission_log.proofs.formulas.ranges_of.Given as goal
 
 abbrev pub invariant-loop-m : goal.invariant-loop-m

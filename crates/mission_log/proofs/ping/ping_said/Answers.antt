@@ -1,4 +1,4 @@
-use Rattle.std.proofs.Common.{◌≡◌, ◌≤◌, ◌+◌, ◌-◌, arith}
+use Rattle.std.proofs.Common.{◌≤◌, ◌-◌, arith}
 use Rattle.std.proofs.lemmas.Int.{ints}
 use Rattle.log_fields.specs.declared.fault.Cause.TheVariants as cause
 use Rattle.mission_log.proofs.Right.{at_most, unless_passed}

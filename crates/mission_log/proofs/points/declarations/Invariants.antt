@@ -1,7 +1,7 @@
 use Rattle.std.proofs.Common.{◌≡◌, All, drop, length, map}
 use Rattle.log_fields.specs.Said.{said}
 use Rattle.mission_log.specs.Found.{appended, declared_part, each}
-use Rattle.mission_log.specs.Kept.{IsMeant, meant}
+use Rattle.mission_log.specs.Meant.{IsMeant, meant}
 use Rattle.mission_log.proofs.points.declarations.Given as goal
 
 abbrev pub invariant-loop-reference : goal.invariant-loop-reference

@@ -1,9 +1,8 @@
-use Rattle.std.proofs.Common.{◌≡◌, ◌∙◌, ap, ap₂, subst, sym, arith, List, true, length, take, drop, ◌++◌, ◌∷◌, [], refl}
-use Rattle.std.specs.Prelude.{All}
-use Rattle.std.proofs.lemmas.Int.{ints, to_z-of_z}
+use Rattle.std.proofs.Common.{◌≡◌, ◌∙◌, ap, ap₂, subst, sym, arith, List, true, length, take, drop, ◌++◌}
+use Rattle.std.proofs.lemmas.Int.{ints}
 use Rattle.log_fields.specs.declared.fault.Cause.TheVariants as cause
 use Rattle.tube_store.specs.declared.VarId.{VarId}
-use Rattle.mission_items.specs.Names.{IsNamed, are_distinct}
+use Rattle.mission_items.specs.Names.{are_distinct}
 use Rattle.mission_items.specs.Valid.{AreVariables, IsPoint}
 use Rattle.mission_log.proofs.Right.{six, unless_passed}
 use Rattle.mission_log.proofs.points.take_range3.Goals as goal

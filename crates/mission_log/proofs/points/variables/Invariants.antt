@@ -1,7 +1,7 @@
 use Rattle.std.proofs.Common.{◌≡◌, All, drop, length, map}
 use Rattle.mission_items.specs.Names.{IsNamed}
 use Rattle.mission_log.specs.Found.{appended, each, variable_part}
-use Rattle.mission_log.specs.Kept.{meant}
+use Rattle.mission_log.specs.Meant.{meant}
 use Rattle.mission_log.proofs.points.variables.Given as goal
 
 abbrev pub invariant-loop-m : goal.invariant-loop-m

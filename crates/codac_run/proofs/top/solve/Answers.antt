@@ -1,8 +1,0 @@
-use Rattle.std.proofs.Common.{arith}
-use Rattle.codac_run.proofs.Handing.{spent-small}
-use Rattle.codac_run.proofs.top.solve.Goals as goal
-
-pub returns-in-Accepted-clause-enough : goal.returns-in-Accepted-clause-enough
-returns-in-Accepted-clause-enough g c above spent =
-    let most = spent-small c.in-Accepted.mission c.args.asked.now (g.K.Sink.written c.args.sink.now) (g.K.Sink.written c.report.new.sink) (g.K.Sink.flushed c.report.new.sink) c.report.result c.report.ensures.ends spent in
-    omega (arith, above, most)

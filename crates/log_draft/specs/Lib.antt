@@ -1,0 +1,4 @@
+pub mod Names
+pub mod Room
+pub mod Growing
+pub mod Kept
