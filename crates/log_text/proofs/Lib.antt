@@ -1,0 +1,9 @@
+pub mod Taking
+pub mod Told
+pub mod Known
+pub mod Bare
+pub mod ReadFields
+pub mod Lines
+pub mod Places
+pub mod KindFields
+pub mod ItemLines
