@@ -1,0 +1,4 @@
+pub mod Rooting
+pub mod Reaching
+pub mod Listing
+pub mod Squares

@@ -1,0 +1,4 @@
+pub mod Draws
+pub mod Course
+pub mod Roots
+pub mod Laws
