@@ -4,8 +4,8 @@ use Rattle.std.specs.Fmt.{signed_decimal}
 use Rattle.tplane_paver.specs.Runs.{pair_count}
 use Rattle.tplane_paver.specs.declared.runs.Run.{Run}
 use Rattle.tube_report.specs.Lines.{line}
-use Rattle.loop_report.specs.declared.found.Finding.{Finding}
-use Rattle.loop_report.specs.declared.found.Finding.TheVariants as finding
+use Rattle.loop_sets.specs.declared.finding.Finding.{Finding}
+use Rattle.loop_sets.specs.declared.finding.Finding.TheVariants as finding
 use Rattle.loop_report.specs.declared.found.Found.{Found}
 
 -- the least and the greatest of a number that each run has

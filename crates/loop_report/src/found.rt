@@ -5,20 +5,10 @@ ghost use Rattle.tube_io.specs.Sends.{Sends};
 ghost use Rattle.tube_report.specs.Lines.{line};
 ghost use Rattle.loop_report.specs.Loops.{finding_words, front_text, run_line, set_front, set_text};
 
+use loop_sets::Finding;
 use text_pieces::{Piece, write_pieces};
 use tplane_paver::{Component, Run};
 use tube_io::{Sink, WriteFault};
-
-/// What is found of a set of possible pairs.
-#[derive(Clone, Copy, Debug, PartialEq, Eq)]
-pub enum Finding {
-    /// Its least pair that is surely near.
-    Sure(u32, u32),
-    /// The degree, which is not 0, by which it surely has a revisit.
-    Degree(i64),
-    /// Neither.
-    Unproved,
-}
 
 /// A set of possible pairs that hang together, with what is found of it.
 #[derive(Drop)]

@@ -9,5 +9,6 @@ pub mod query;
 #[cfg(test)]
 mod tests;
 
-pub use found::{Finding, Found};
+pub use found::Found;
+pub use loop_sets::Finding;
 pub use query::write_loops;

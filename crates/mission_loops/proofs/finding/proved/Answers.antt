@@ -1,0 +1,13 @@
+use Rattle.std.proofs.Common.{map}
+use Rattle.tube_store.specs.declared.SignalId.{SignalId}
+use Rattle.loop_report.specs.declared.found.Found.{Found}
+use Rattle.mission_loops.proofs.Telling.{found-more, sets-more}
+use Rattle.mission_loops.proofs.finding.proved.Goals as goal
+
+pub loop-set-preserved : goal.loop-set-preserved
+loop-set-preserved c =
+    let f : Found = record { set = c.in-Some.set; finding = c.in_ok-finding.finding } in record {
+      sets = sets-more c.loop-set.found.items c.push.new.self.items c.loop-set.yielded f c.in_ok-push.ensures.items c.loop-set.invariant.sets;
+      found = found-more c.args.store.now.shape c.args.q.now (map (λ (r : SignalId). r.0) c.args.rates_x.now) (map (λ (r : SignalId). r.0) c.args.rates_y.now) c.args.store.now.box
+          c.loop-set.found.items c.push.new.self.items f c.in_ok-push.ensures.items c.loop-set.invariant.found c.in_ok-finding.ensures;
+    }

@@ -1,0 +1,20 @@
+-- What is told of a query is true of every trajectory.
+use Rattle.std.specs.Prelude.{ℕ, List, Option, IfSome, All, take}
+use Rattle.std.specs.List.{Contains}
+use Rattle.tube_spec.specs.Span.{Span}
+use Rattle.hull_tree.specs.declared.revisit.Query.{Query}
+use Rattle.loop_report.specs.declared.found.Found.{Found}
+use Rattle.mission_items.specs.declared.mission.Mission.{Mission}
+use Rattle.mission_items.specs.Valid.{IsMission}
+use Rattle.mission_net.specs.Records.{shape_by, Encloses}
+use Rattle.mission_loops.specs.Queries.{queries}
+use Rattle.mission_loops.specs.Findings.{IsToldOver, HoldRevisits, IsProved}
+
+-- Over a box that encloses the first records of a mission, what is told of one of their queries holds all revisits of the assignments that
+-- satisfy them, and where something is found of a set each of these assignments has a revisit in it.
+abbrev pub LoopsLaw : Type 0
+LoopsLaw =
+    (m : Mission) (upto : ℕ) (box : Option (List Span)) (q : Query) (told : Option (List Found))
+    → IsMission m → Contains (queries (take upto m.items)) q → Encloses m.cuts (take upto m.items) box
+    → IsToldOver (take upto m.items) (shape_by m.cuts (take upto m.items)) box q told
+    → IfSome told (HoldRevisits m.cuts (take upto m.items) q) × IfSome told (All (IsProved m.cuts (take upto m.items) q))

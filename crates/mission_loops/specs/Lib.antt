@@ -1,0 +1,5 @@
+pub mod Queries
+pub mod Findings
+pub mod Texts
+pub mod Writing
+pub mod Laws
