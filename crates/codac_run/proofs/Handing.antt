@@ -1,5 +1,5 @@
 -- What a run over an accepted log leaves, from what settling and writing its sections say.
-use Rattle.std.proofs.Common.{◌≡◌, ℕ, ◌+◌, ◌≤◌, ◌⊎◌, inl, inr, true, false, List, [], ◌∷◌, ◌++◌, Option, Result, Ok, Err, OnOk, IsErr, IsSomeAnd, refl, sym, ap, subst, ◌∙◌, arith, length, map, take}
+use Rattle.std.proofs.Common.{◌≡◌, ℕ, ◌+◌, ◌≤◌, ◌⊎◌, inl, inr, true, false, List, [], ◌∷◌, ◌++◌, Option, None, Result, Ok, Err, OnOk, IsErr, IsSomeAnd, refl, sym, ap, subst, ◌∙◌, arith, length, map, take}
 use Rattle.std.proofs.lemmas.List.{map-append}
 use Rattle.std.proofs.Math.Seq.{take-length}
 use Rattle.tube_spec.specs.Span.{Span}
@@ -24,7 +24,11 @@ use Rattle.codac_run.specs.declared.ended.Status.{Status}
 use Rattle.codac_run.specs.declared.ended.Status.TheVariants as status
 use Rattle.codac_run.specs.declared.ended.SpentAt.{SpentAt}
 use Rattle.codac_run.specs.declared.ended.Ended.{Ended}
-use Rattle.codac_run.specs.Reports.{IsSpent, HandsSpent, IsSettledNet, HandsNet, HandsWhere, HandsNetWhere, IsSettledOnly, status_of, Writes, Stops, IsBare, RunsOut, Reports}
+use Rattle.loop_report.specs.declared.found.Found.{Found}
+use Rattle.mission_loops.specs.Texts.{last_told}
+use Rattle.mission_loops.specs.declared.writing.Findings.{Findings}
+use Rattle.codac_run.specs.Reports.{IsSpent, HandsSpent, IsSettledNet, HandsNet, HandsWhere, HandsNetWhere, HandsFound, IsSettledOnly, status_of, Writes, Stops, IsBare, run_text, AreToldOf, AreAllTold, is_brief, RunsOut, RunsOutAfter, Reports}
+use Rattle.codac_run.specs.Telling.{AreToldAfter, AreCutShortAfter}
 
 -- ---- the last section
 
@@ -91,48 +95,101 @@ all-of : {P : Type 0} (r : Result (Unit {0}) WriteFault) → OnOk r P → (IsErr
 all-of (Ok v) p ok = p
 all-of (Err e) p ok = absurd (ok refl)
 
+is-no-err : (r : Result (Unit {0}) WriteFault) → r ≡ Ok tt → IsErr r → ⊥
+is-no-err (Ok v) e err = cc err
+is-no-err (Err f) e err = cc e
+
 unspent-all : (m : Mission) (earlier : List Section) (last : Section) → AreAll m earlier last → last.answer ≡ answer.Fixpoint → map (λ (d : Section). d.upto) (earlier ++ last ∷ []) ≡ section_ends m.items
 unspent-all m earlier last (inl all) e = all
 unspent-all m earlier last (inr spent) e = absurd (let bad : true ≡ false = sym spent ∙ ap is_spent e in cc bad)
 
-module _ {K : Type 0} (written : K → Option (List ℕ)) (flushed : K → Option ℕ) (faults : K → ℕ) (m : Mission) (asked : Asked) (order : Order) (old mid : K) (new : Option (List ℕ)) (count : Option ℕ)
-    (net : NetState AnyCtc) (section : LastSection) (s : Status) (e : Ended)
-    (r : IsReported written flushed faults m (record { order = order; budget = asked.budget; brief = asked.brief }) old mid net section)
-    (only : (s ≡ status_of (verdict_of section.end.answer)) ⊎ (s ≡ status.WriteFault)) (told : IsErr section.written → s ≡ status.WriteFault)
-    (writes : (text : List ℕ) → Sends written flushed faults text old mid section.written → Writes text (status_of (verdict_of section.end.answer)) (written old) new count s)
-    (same : e.status ≡ s) (spent : HandsWhere section.end.answer section.number section.end.began net e.spent) (handed : HandsNetWhere s net e.net) where
+hands-found : (s : Status) (last told handed : Option (List Found)) → (s ≡ status.Settled → last ≡ told) → HandsFound s last handed → HandsFound s told handed
+hands-found status.Settled last told handed same h = h ∙ same refl
+hands-found status.Empty last told handed same h = h
+hands-found status.Usage last told handed same h = h
+hands-found status.Refused last told handed same h = h
+hands-found status.ReadFault last told handed same h = h
+hands-found status.WriteFault last told handed same h = h
+hands-found status.Spent last told handed same h = h
+hands-found status.NoMemory last told handed same h = h
+
+module _ {K : Type 0} (written : K → Option (List ℕ)) (flushed : K → Option ℕ) (faults : K → ℕ) (m : Mission) (asked : Asked) (order : Order) (old mid : K)
+    (net : NetState AnyCtc) (section : LastSection) (e : Ended)
+    (r : IsReported written flushed faults m (record { order = order; budget = asked.budget; brief = is_brief asked }) old mid net section)
+    (spent : HandsWhere section.end.answer section.number section.end.began net e.spent) where
   answered : section.end.answer ≡ r.last.answer
   answered = sym (ap (λ (d : Section). d.answer) r.here)
 
-  all-there : (s ≡ status.WriteFault → ⊥) → AreAll m r.earlier r.last
-  all-there ok = all-of section.written r.all (λ err. ok (told err))
+  hands-last : HandsSpent m asked.budget (length r.earlier + 1) r.last r.last.answer e.spent
+  hands-last = subst (λ (a : Settled). HandsSpent m asked.budget (length r.earlier + 1) r.last a e.spent) answered
+      (hands-spent m asked.budget (length r.earlier + 1) r.last net section.end.began section.end.answer e.spent (ap (λ (d : Section). d.box) r.here) (sym (ap (λ (d : Section). d.began) r.here))
+      (subst (IsSpentAs m.cuts (take r.last.upto m.items) r.last.box r.last.began asked.budget) (sym answered) (at-last (IsSectionOf m asked.budget) r.earlier r.last r.sections.sections.each).cause)
+      (subst (λ (n : ℕ). HandsWhere section.end.answer n section.end.began net e.spent) r.numbered spent))
 
-  net-of-all : s ≡ status.Settled → IsSettledNet m r.last.box net
-  net-of-all settled =
-      let fixpoint = only-fixpoint section.end.answer s only settled in
-      let ends = unspent-all m r.earlier r.last (all-there (λ fault. let bad : status.Settled ≡ status.WriteFault = sym settled ∙ fault in cc bad)) (sym answered ∙ fixpoint) in record {
-        holds = subst (λ (l : List Item). IsNetOf m.cuts l net) (takes-all m r.earlier r.last ends) r.holds;
-        held = sym (ap (λ (d : Section). d.box) r.here);
-        rests = r.resting fixpoint;
-      }
+  -- where all was written
+  module _ (after : K) (new : Option (List ℕ)) (count : Option ℕ) (s : Status) (findings : Findings)
+      (t : AreToldAfter written flushed faults m asked section net.store.box mid after findings)
+      (only : (s ≡ status_of (verdict_of section.end.answer)) ⊎ (s ≡ status.WriteFault)) (told : IsErr findings.written → s ≡ status.WriteFault)
+      (writes : (text : List ℕ) → Sends written flushed faults text old after findings.written → Writes text (status_of (verdict_of section.end.answer)) (written old) new count s)
+      (same : e.status ≡ s) (handed : HandsNetWhere s net e.net) (found : HandsFound s findings.last e.found) where
+    all-there : (s ≡ status.WriteFault → ⊥) → AreAll m r.earlier r.last
+    all-there ok = all-of section.written r.all (λ err. ok (told (t.sections err)))
 
-  pub reported : Reports m asked (written old) new count e
-  reported = record {
+    all-told : (s ≡ status.WriteFault → ⊥) → AreAllTold m asked r.last t.told
+    all-told ok = subst (λ (d : Section). AreAllTold m asked d t.told) (sym r.here) (all-of findings.written t.all (λ err. ok (told err)))
+
+    no-fault : s ≡ status.Settled → s ≡ status.WriteFault → ⊥
+    no-fault settled fault = let bad : status.Settled ≡ status.WriteFault = sym settled ∙ fault in cc bad
+
+    net-of-all : s ≡ status.Settled → IsSettledNet m r.last.box net
+    net-of-all settled =
+        let fixpoint = only-fixpoint section.end.answer s only settled in
+        let ends = unspent-all m r.earlier r.last (all-there (no-fault settled)) (sym answered ∙ fixpoint) in record {
+          holds = subst (λ (l : List Item). IsNetOf m.cuts l net) (takes-all m r.earlier r.last ends) r.holds;
+          held = sym (ap (λ (d : Section). d.box) r.here);
+          rests = r.resting fixpoint;
+        }
+
+    text : List ℕ
+    text = run_text m asked (r.earlier ++ r.last ∷ []) t.told
+
+    pub reported : Reports m asked (written old) new count e
+    unfolding text
+    reported = record {
+      earlier = r.earlier;
+      last = r.last;
+      sections = r.sections;
+      told = t.told;
+      findings = subst (λ (d : Section). AreToldOf m asked d t.told) (sym r.here) t.are_told;
+      writes = subst (λ (u : Status). Writes text (status_of (verdict_of r.last.answer)) (written old) new count u) (sym same)
+          (subst (λ (a : Settled). Writes text (status_of (verdict_of a)) (written old) new count s) answered
+          (writes text (t.text (report_text m (is_brief asked) (r.earlier ++ r.last ∷ [])) old r.text)));
+      all = λ ok. (all-there (λ fault. ok (same ∙ fault)), all-told (λ fault. ok (same ∙ fault)));
+      spent = hands-last;
+      net = subst (λ (u : Status). HandsNet m r.last.box u e.net) (sym same) (hands-net m r.last.box s net e.net net-of-all handed);
+      found = subst (λ (u : Status). HandsFound u (last_told t.told) e.found) (sym same)
+          (hands-found s findings.last (last_told t.told) e.found (λ settled. all-of findings.written t.last (λ err. no-fault settled (told err))) found);
+    }
+
+  -- where memory ran out among the queries
+  pub ran-out-after : (after : K) → AreCutShortAfter written flushed faults m asked section net.store.box mid after → e.status ≡ status.NoMemory → e.net ≡ None → e.found ≡ None
+      → RunsOutAfter m asked (written old) (written after) e
+  ran-out-after after t ended bare none = record {
+    ended = ended;
     earlier = r.earlier;
     last = r.last;
     sections = r.sections;
-    writes = subst (λ (t : Status). Writes (report_text m asked.brief (r.earlier ++ r.last ∷ [])) (status_of (verdict_of r.last.answer)) (written old) new count t) (sym same)
-        (subst (λ (a : Settled). Writes (report_text m asked.brief (r.earlier ++ r.last ∷ [])) (status_of (verdict_of a)) (written old) new count s) answered (writes (report_text m asked.brief (r.earlier ++ r.last ∷ [])) r.text));
-    all = λ ok. all-there (λ fault. ok (same ∙ fault));
-    spent = subst (λ (a : Settled). HandsSpent m asked.budget (length r.earlier + 1) r.last a e.spent) answered
-        (hands-spent m asked.budget (length r.earlier + 1) r.last net section.end.began section.end.answer e.spent (ap (λ (d : Section). d.box) r.here) (sym (ap (λ (d : Section). d.began) r.here))
-        (subst (IsSpentAs m.cuts (take r.last.upto m.items) r.last.box r.last.began asked.budget) (sym answered) (at-last (IsSectionOf m asked.budget) r.earlier r.last r.sections.sections.each).cause)
-        (subst (λ (n : ℕ). HandsWhere section.end.answer n section.end.began net e.spent) r.numbered spent));
-    net = subst (λ (t : Status). HandsNet m r.last.box t e.net) (sym same) (hands-net m r.last.box s net e.net net-of-all handed);
+    all = all-of section.written r.all (λ err. is-no-err section.written t.sections err);
+    told = t.told;
+    findings = subst (λ (d : Section). AreToldOf m asked d t.told) (sym r.here) t.are_told;
+    writes = (t.text (report_text m (is_brief asked) (r.earlier ++ r.last ∷ [])) old r.text).ok;
+    spent = hands-last;
+    net = bare;
+    found = none;
   }
 
 pub ran-out : {K : Type 0} (written : K → Option (List ℕ)) (flushed : K → Option ℕ) (faults : K → ℕ) (m : Mission) (asked : Asked) (order : Order) (old new : K) (e : Ended)
-    → IsCutShort written flushed faults m (record { order = order; budget = asked.budget; brief = asked.brief }) old new → e.status ≡ status.NoMemory → IsBare e → RunsOut m asked (written old) (written new) e
+    → IsCutShort written flushed faults m (record { order = order; budget = asked.budget; brief = is_brief asked }) old new → e.status ≡ status.NoMemory → IsBare e → RunsOut m asked (written old) (written new) e
 ran-out written flushed faults m asked order old new e short ended bare = record { ended = ended; bare = bare; done = short.done; sections = short.sections; unspent = short.unspent; writes = short.text.ok }
 
 -- ---- a run that is spent
@@ -144,7 +201,7 @@ reports-small m asked old new flushed e r spent = by r.last.answer is.cause r.wr
     is = at-last (IsSectionOf m asked.budget) r.earlier r.last r.sections.sections.each
 
     by : (a : Settled) → IsSpentAs m.cuts (take r.last.upto m.items) r.last.box r.last.began asked.budget a
-        → Writes (report_text m asked.brief (r.earlier ++ r.last ∷ [])) (status_of (verdict_of a)) old new flushed e.status → asked.budget ≤ 2000000000000000
+        → Writes (run_text m asked (r.earlier ++ r.last ∷ []) r.told) (status_of (verdict_of a)) old new flushed e.status → asked.budget ≤ 2000000000000000
     by (answer.Spent id) cause w = omega (arith, cause.0, is.small)
     by answer.Fixpoint cause (inl w) = absurd (let bad : status.Spent ≡ status.Settled = sym spent ∙ w.0 in cc bad)
     by answer.Fixpoint cause (inr w) = absurd (let bad : status.Spent ≡ status.WriteFault = sym spent ∙ w.0 in cc bad)
@@ -152,8 +209,9 @@ reports-small m asked old new flushed e r spent = by r.last.answer is.cause r.wr
     by answer.Empty cause (inr w) = absurd (let bad : status.Spent ≡ status.WriteFault = sym spent ∙ w.0 in cc bad)
 
 -- a budget that was spent is at most the greatest measure
-pub spent-small : (m : Mission) (asked : Asked) (old new : Option (List ℕ)) (flushed : Option ℕ) (e : Ended) → Stops status.NoMemory old new e ⊎ (RunsOut m asked old new e ⊎ Reports m asked old new flushed e)
+pub spent-small : (m : Mission) (asked : Asked) (old new : Option (List ℕ)) (flushed : Option ℕ) (e : Ended) → Stops status.NoMemory old new e ⊎ (RunsOut m asked old new e ⊎ RunsOutAfter m asked old new e ⊎ Reports m asked old new flushed e)
     → e.status ≡ status.Spent → asked.budget ≤ 2000000000000000
 spent-small m asked old new flushed e (inl stops) spent = absurd (let bad : status.Spent ≡ status.NoMemory = sym spent ∙ stops.0 in cc bad)
 spent-small m asked old new flushed e (inr (inl out)) spent = absurd (let bad : status.Spent ≡ status.NoMemory = sym spent ∙ out.ended in cc bad)
-spent-small m asked old new flushed e (inr (inr r)) spent = reports-small m asked old new flushed e r spent
+spent-small m asked old new flushed e (inr (inr (inl out))) spent = absurd (let bad : status.Spent ≡ status.NoMemory = sym spent ∙ out.ended in cc bad)
+spent-small m asked old new flushed e (inr (inr (inr r))) spent = reports-small m asked old new flushed e r spent

@@ -1,6 +1,7 @@
 ghost use Rattle.std.specs.Prelude.{◌≡◌, None};
 
 use ctc_network::{CtcId, Net};
+use mission_loops::FoundSets;
 use mission_net::AnyCtc;
 use tube_store::Store;
 
@@ -21,7 +22,7 @@ pub enum Status {
     WriteFault = 5,
     /// The report was written up to a section that was spent: the budget ran out first.
     Spent = 6,
-    /// Memory ran out; the sections before were written.
+    /// Memory ran out; the sections and findings before were written.
     NoMemory = 7,
 }
 
@@ -49,17 +50,21 @@ pub struct Ended {
     pub spent: Option<SpentAt>,
     /// The settled net, where the status is `Settled`.
     pub net: Option<Net<AnyCtc>>,
+    /// The sets of the last query with what is found of each, where the status is `Settled`, findings were asked for, there is a query and
+    /// the last one is not crowded.
+    pub found: Option<FoundSets>,
 }
 
 impl Ended {
     /// A status and nothing else.
     pub(crate) fn only(status: Status) -> Ended
-        ensures { result ≡ record { status = status; spent = None; net = None } }
+        ensures { result ≡ record { status = status; spent = None; net = None; found = None } }
     {
         Ended {
             status,
             spent: None,
             net: None,
+            found: None,
         }
     }
 }

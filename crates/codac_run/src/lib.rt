@@ -4,10 +4,13 @@
 
 mod clock;
 mod ended;
+mod ending;
 mod hearing;
+mod reporting;
 mod sure;
 mod top;
 
 pub use ended::{Ended, SpentAt, Status};
+pub use mission_loops::FoundSets;
 pub use sure::run_in_memory;
 pub use top::run;

@@ -3,10 +3,9 @@
 ghost use Rattle.std.specs.Prelude.{◌≡◌, ◌<◌, [], Some, Ok, length};
 ghost use Rattle.cli_words.specs.Asked.{asked_of};
 ghost use Rattle.cli_words.specs.declared.answer.Asked.{Asked};
-ghost use Rattle.mission_log.specs.Log.{log_of};
 ghost use Rattle.mission_items.specs.declared.mission.Mission.{Mission};
 ghost use Rattle.section_report.specs.Sections.{StartsBelow};
-ghost use Rattle.codac_run.specs.Reports.{built, Ends, IsWholeOrNoMemory};
+ghost use Rattle.codac_run.specs.Reports.{log_asked, Ends, IsWholeOrNoMemory};
 
 use crate::ended::{Ended, Status};
 use crate::top::run;
@@ -27,13 +26,13 @@ pub fn run_in_memory<const N: usize, L: Ledger>(
     steps: &mut Steps<L>,
 ) -> (Ended, SureSink<N>)
     requires { 0 < most }
-    ensures ends { Ends (built (asked_of words.now)) (Some log.items) (Some []) (Some result.1.bytes) (Some result.1.flushed) result.0 }
+    ensures ends { Ends (asked_of words.now) (Some log.items) (Some []) (Some result.1.bytes) (Some result.1.flushed) result.0 }
     ensures read { result.0.status ≡ Status.ReadFault → ⊥ }
     ensures write { result.0.status ≡ Status.WriteFault → length result.1.bytes ≡ N }
 
     // Right words, an accepted log, a budget above the measure at which each section starts, and room in the sink give the whole
     // report, or memory runs out.
-    ensures complete { (asked : Asked) (m : Mission) → built (asked_of words.now) ≡ Some asked → log_of log.items ≡ Ok m
+    ensures complete { (asked : Asked) (m : Mission) → asked_of words.now ≡ Some asked → log_asked asked (Some log.items) ≡ Some (Ok m)
         → StartsBelow m asked.budget → length result.1.bytes < N → IsWholeOrNoMemory result.0.status }
 {
     let mut source = SureSource::new(log, most);

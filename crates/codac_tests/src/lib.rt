@@ -9,6 +9,12 @@ mod net_expressions;
 #[cfg(test)]
 mod net_localising;
 #[cfg(test)]
+mod read_logs;
+#[cfg(test)]
+mod run_hostile;
+#[cfg(test)]
+mod run_loops;
+#[cfg(test)]
 mod run_missions;
 #[cfg(test)]
 mod run_sections;

@@ -104,7 +104,8 @@ fn worked_logs(rt: HostRuntime) -> Result<(), Fail> {
             b"section 1 empty\nend 1\n".as_slice(),
         ),
         ("solve fast", LOG, Status::Usage, usage),
-        ("loops", LOG, Status::Usage, usage),
+        ("loops", LOG, Status::Settled, REPORT),
+        ("loop", LOG, Status::Usage, usage),
         ("", LOG, Status::Usage, usage),
     ] {
         let (ended, written) = ran(rt.alloc(), line, log, 4096, &[], &[])?;

@@ -151,7 +151,12 @@ fn run_counted<L: Ledger>(
     run_in_memory::<400, L>(alloc, words, log, 4096, &mut steps)
 }
 
-fn ran_in_memory(alloc: Global, line: &str, log: &[u8]) -> Result<(Ended, SureSink<400>), Fail> {
+// What a run in memory leaves, with a sink of 400 bytes.
+pub fn ran_in_memory(
+    alloc: Global,
+    line: &str,
+    log: &[u8],
+) -> Result<(Ended, SureSink<400>), Fail> {
     let mut words = Words::new(alloc);
     for word in line.split(' ') {
         words.push(alloc, word)?;
@@ -166,9 +171,15 @@ fn spent_in_the_middle(rt: HostRuntime) -> Result<(), Fail> {
     let log =
         b"mission,1,10,5\nsignal,x,-1000,1000\nsettle\nat,x,0,0,0\nsettle\nat,x,10,0,0\n".as_slice();
     let (ended, sink) = ran_in_memory(rt.alloc(), "solve --budget 0 --brief", log)?;
-    let Ended { status, spent, net } = ended;
+    let Ended {
+        status,
+        spent,
+        net,
+        found,
+    } = ended;
     assert_eq!(rt; status, Status::Spent);
     assert!(rt; net.is_none());
+    assert!(rt; found.is_none());
     let at = spent.ok_or("no section was spent")?;
     assert_eq!(rt; at.section, 2);
     assert_eq!(rt; at.ctc, CtcId(2));
@@ -186,8 +197,14 @@ fn spent_in_the_middle(rt: HostRuntime) -> Result<(), Fail> {
 #[test]
 fn settled_in_memory(rt: HostRuntime) -> Result<(), Fail> {
     let (ended, sink) = ran_in_memory(rt.alloc(), "solve --brief", LOG)?;
-    let Ended { status, spent, net } = ended;
+    let Ended {
+        status,
+        spent,
+        net,
+        found,
+    } = ended;
     assert_eq!(rt; status, Status::Settled);
+    assert!(rt; found.is_none());
     assert_eq!(rt; sink.flushed_len(), sink.bytes().len());
     assert!(rt; spent.is_none());
     let net = net.ok_or("no net")?;

@@ -118,7 +118,7 @@ module _ {K : Type 0} (written : K → Option (List ℕ)) (flushed : K → Optio
 
   module _ (i first number : ℕ) (net net2 : NetState AnyCtc) (mid new : K) (s : LastSection) (w : IsWrittenTo written flushed faults m chosen old i first number net mid)
       (holds : IsNetOf m.cuts (take i m.items) net2) (is : IsSectionOf m chosen.budget (section_of i s.end net2.store.box)) (goes : GoesOn m first net.store.box (section_of i s.end net2.store.box))
-      (resting : s.end.answer ≡ answer.Fixpoint → All IsFalse net2.waiting) (numbered : s.number ≡ number)
+      (resting : s.end.answer ≡ answer.Fixpoint → All IsFalse net2.waiting) (placed : (s.number ≡ number) × (s.upto ≡ i))
       (text : Sends written flushed faults (text_of m chosen.brief number (section_of i s.end net2.store.box)) mid new s.written) where
     d : Section
     d = section_of i s.end net2.store.box
@@ -145,18 +145,19 @@ module _ {K : Type 0} (written : K → Option (List ℕ)) (flushed : K → Optio
     unfolding d
     uptos-more = map-append (λ (e : Section). e.upto) w.done (d ∷ []) ∙ ap (λ (l : List ℕ). l ++ i ∷ []) w.ends
 
-    reported-by : (rest : List ℕ) → (settles_from 0 (take i m.items) ++ i ∷ []) ++ rest ≡ section_ends m.items → OnOk s.written (AreAll m w.done d) → IsReported written flushed faults m chosen old new net2 s
+    reported-by : i ≤ length m.items → (rest : List ℕ) → (settles_from 0 (take i m.items) ++ i ∷ []) ++ rest ≡ section_ends m.items → OnOk s.written (AreAll m w.done d) → IsReported written flushed faults m chosen old new net2 s
     unfolding d
-    reported-by rest ends all = record {
+    reported-by inside rest ends all = record {
       earlier = w.done;
       last = d;
-      here = refl;
+      here = ap (λ (n : ℕ). section_of n s.end net2.store.box) (sym placed.1);
+      within = omega (arith, placed.1, inside);
       sections = record {
         sections = record { ends = (rest, ap (λ (l : List ℕ). l ++ rest) uptos-more ∙ ends); each = each-more; go_on = goes-more };
         unspent = w.unspent;
       };
       all = all;
-      numbered = numbered ∙ w.counted;
+      numbered = placed.0 ∙ w.counted;
       text = text-more;
       holds = holds;
       resting = resting;
@@ -166,7 +167,7 @@ module _ {K : Type 0} (written : K → Option (List ℕ)) (flushed : K → Optio
     pub reported-early : (x : Item) → i < length m.items → take (i + 1) m.items ≡ take i m.items ++ x ∷ [] → is_settle x ≡ true → (is_err s.written || is_spent s.end.answer) ≡ true → IsReported written flushed faults m chosen old new net2 s
     unfolding d
     reported-early x inside longer here stops =
-        reported-by (later_ends (i + 1) m.items)
+        reported-by (omega (arith, inside)) (later_ends (i + 1) m.items)
         (ap (λ (l : List ℕ). l ++ later_ends (i + 1) m.items) (sym (settle-here m.items i x inside longer here)) ∙ ends-rest m.items (i + 1))
         (ok-all s.written (elim (spent-of (is_err s.written) (is_spent s.end.answer) stops) [ inl e ↦ inl e | inr e ↦ inr (inr e) ]))
 
@@ -176,7 +177,7 @@ module _ {K : Type 0} (written : K → Option (List ℕ)) (flushed : K → Optio
     reported-last e =
         let all : settles_from 0 (take i m.items) ++ i ∷ [] ≡ section_ends m.items =
         ap (λ (n : ℕ). settles_from 0 (take n m.items) ++ n ∷ []) e ∙ ap (λ (l : List Item). settles_from 0 l ++ length m.items ∷ []) (take-length m.items) in
-        reported-by [] (append-nil (settles_from 0 (take i m.items) ++ i ∷ []) ∙ all) (ok-all s.written (inr (inl (uptos-more ∙ all))))
+        reported-by (omega (arith, e)) [] (append-nil (settles_from 0 (take i m.items) ++ i ∷ []) ∙ all) (ok-all s.written (inr (inl (uptos-more ∙ all))))
 
     -- a section after which the next one comes
     pub written-more : (x : Item) → i < length m.items → take (i + 1) m.items ≡ take i m.items ++ x ∷ [] → is_settle x ≡ true → (is_err s.written || is_spent s.end.answer) ≡ false

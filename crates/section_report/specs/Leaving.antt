@@ -1,5 +1,5 @@
 -- What settling and writing the sections of a mission leaves.
-use Rattle.std.specs.Prelude.{◌≡◌, ℕ, ◌+◌, List, [], ◌∷◌, ◌++◌, Option, Ok, OnOk, IsFalse, All, length, take}
+use Rattle.std.specs.Prelude.{◌≡◌, ℕ, ◌+◌, ◌≤◌, List, [], ◌∷◌, ◌++◌, Option, Ok, OnOk, IsFalse, All, length, take}
 use Rattle.tube_io.specs.Sends.{Sends}
 use Rattle.tube_io.specs.declared.whole.WriteFault.{WriteFault}
 use Rattle.ctc_network.specs.Nets.{NetState}
@@ -18,7 +18,8 @@ pub record IsReported {K : Type 0} (written : K → Option (List ℕ)) (flushed 
     (net : NetState AnyCtc) (section : LastSection) : Type 0 where
   pub earlier : List Section
   pub last : Section
-  pub here : last ≡ section_of last.upto section.end net.store.box
+  pub here : last ≡ section_of section.upto section.end net.store.box
+  pub within : section.upto ≤ length m.items
   pub sections : AreSectionsTo m chosen.budget earlier last
   pub all : OnOk section.written (AreAll m earlier last)
   pub numbered : section.number ≡ length earlier + 1

@@ -41,6 +41,8 @@ pub struct Part {
 pub struct LastSection {
     /// Its number, from 1.
     pub number: u32,
+    /// How many records it takes.
+    pub upto: usize,
     /// How its settling ended.
     pub end: SectionEnd,
     /// Whether it was written whole.
@@ -93,7 +95,7 @@ pub fn write_part<K: Sink, L: Ledger>(
     ensures unfired { IsNone net.old.store.box → steps.new ≡ steps.old }
 
     // Its text was written.
-    ensures number { IfOk result (λ s. s.number ≡ part.number) }
+    ensures place { IfOk result (λ s. (s.number ≡ part.number) × (s.upto ≡ part.upto)) }
     ensures writes { IfOk result (λ s. Sends K.written K.flushed K.faults (text_of mission.now choices.brief part.number (section_of part.upto s.end net.new.store.box)) sink.old sink.new s.written) }
     ensures silent { OnErr result (sink.new ≡ sink.old) }
 {
@@ -119,6 +121,7 @@ pub fn write_part<K: Sink, L: Ledger>(
     );
     Ok(LastSection {
         number: part.number,
+        upto: part.upto,
         end,
         written,
     })

@@ -45,7 +45,7 @@ returns-then-ends_report-clause-reported g c =
     let inside : i < length m.items = omega (arith, c.loop-upto-test.true, ap length c.as_slice-items.ensures) in
     let e = c.in_ok-section.ensures in
     reported-early g.K.Sink.written g.K.Sink.flushed g.K.Sink.faults m c.args.choices c.args.sink.now i c.loop-upto.first c.loop-upto.number c.loop-upto.net c.write_part.new.net c.loop-upto.sink c.write_part.new.sink c.in_ok-section.section
-    c.loop-upto.invariant.sections e.holds e.section e.goes_on e.resting e.number e.writes
+    c.loop-upto.invariant.sections e.holds e.section e.goes_on e.resting e.place e.writes
     x inside (longer c.as_slice-items.result.now m.items c.as_slice-items.ensures i x c.index-items-upto.is inside) (sym c.is_settle.ensures ∙ c.if-is_settle.true) (sym c.ends_report.ensures ∙ c.if-ends_report.true)
 
 pub loop-upto-preserved : goal.loop-upto-preserved
@@ -61,7 +61,7 @@ loop-upto-preserved g c =
           rw (w.first-is, w.number-is, w.net-is, w.sink-is, w.table-is)
           (record {
             sections = written-more g.K.Sink.written g.K.Sink.flushed g.K.Sink.faults m c.args.choices c.args.sink.now i c.loop-upto.first c.loop-upto.number c.loop-upto.net w.write_part.new.net c.loop-upto.sink w.write_part.new.sink w.in_ok-section.section
-                c.loop-upto.invariant.sections e.holds e.section e.goes_on e.resting e.number e.writes
+                c.loop-upto.invariant.sections e.holds e.section e.goes_on e.resting e.place e.writes
                 x inside more (sym c.is_settle.ensures ∙ w.if-is_settle.true) (sym w.ends_report.ensures ∙ w.if-ends_report.false);
             table = e.table;
           })
@@ -77,7 +77,7 @@ returns-clause-reported g c =
     let end : c.loop-upto.upto ≡ n = omega (arith, c.loop-upto-test.false, c.loop-upto.auto.upto-end) in
     let w = subst (λ (k : ℕ). IsWrittenTo g.K.Sink.written g.K.Sink.flushed g.K.Sink.faults m c.args.choices c.args.sink.now k c.loop-upto.first c.loop-upto.number c.loop-upto.net c.loop-upto.sink) end c.loop-upto.invariant.sections in
     let e = c.write_part-2.ensures in
-    if-ok-then c.write_part-2.result _ _ _ _ _ _ _ e.holds e.section e.goes_on e.resting e.number e.writes
+    if-ok-then c.write_part-2.result _ _ _ _ _ _ _ e.holds e.section e.goes_on e.resting e.place e.writes
     (λ s holds is goes resting numbered text. reported-last g.K.Sink.written g.K.Sink.flushed g.K.Sink.faults m c.args.choices c.args.sink.now n c.loop-upto.first c.loop-upto.number c.loop-upto.net c.write_part-2.new.net c.loop-upto.sink c.write_part-2.new.sink s
     w holds is goes resting numbered text (ap length c.as_slice-items.ensures))
 

@@ -1,0 +1,161 @@
+//! The report of an accepted log: its sections, and what is told of its queries.
+
+ghost use Rattle.std.specs.Prelude.{◌≡◌, ◌≤◌, ◌⊎◌, ◌&&◌, IfOk, OnErr, is_ok, length, take};
+ghost use Rattle.tube_io.specs.Causes.{Rose};
+ghost use Rattle.mission_items.specs.Valid.{IsMission};
+ghost use Rattle.mission_net.specs.Records.{shape_by, Encloses};
+ghost use Rattle.codac_run.specs.Reports.{is_brief, is_looping, status_of, Stops, RunsOut, RunsOutAfter, Reports, HandsWhere, HandsNetWhere, HandsFound, IsSettledOnly};
+ghost use Rattle.codac_run.specs.Telling.{AreToldAfter, AreCutShortAfter};
+
+use crate::clock::same_grid;
+use crate::ended::{Ended, SpentAt, Status};
+use crate::ending::finish;
+use cli_words::{Asked, Mode, OrderWord};
+use ctc_network::{Net, Order, Settled};
+use mission_items::Mission;
+use mission_loops::{Findings, FoundSets, write_findings};
+use mission_net::AnyCtc;
+use section_report::{Choices, LastSection, verdict_of, write_sections};
+use std::alloc::Global;
+use std::sync::ledger::Ledger;
+use step_count::Steps;
+use tube_io::{NoMemory, Sink};
+use tube_report::Verdict;
+use tube_store::Store;
+
+/// Whether a report is in brief: that of a demo always is.
+fn is_brief(asked: &Asked) -> bool
+    ensures { result ≡ is_brief asked.now }
+{
+    asked.brief || asked.mode == Mode::Demo
+}
+
+/// The status of a run whose last section has a verdict.
+fn status_of(verdict: Verdict) -> Status
+    ensures { result ≡ status_of verdict }
+{
+    match verdict {
+        Verdict::Settled => Status::Settled,
+        Verdict::Empty => Status::Empty,
+        Verdict::Spent => Status::Spent,
+    }
+}
+
+/// The order of firing that a word names.
+fn order_of(word: OrderWord) -> Order {
+    match word {
+        OrderWord::Fifo => Order::Fifo,
+        OrderWord::Lifo => Order::Lifo,
+        OrderWord::Rank => Order::Rank,
+    }
+}
+
+/// What is handed out beside a status, over the net of the last section and what is told of the last query.
+fn handed(status: Status, section: LastSection, net: Net<AnyCtc>, found: Option<FoundSets>) -> Ended
+    requires { IsSettledOnly section.end.answer status }
+    ensures status { result.status ≡ status }
+    ensures found { HandsFound status found result.found }
+    ensures spent { HandsWhere section.end.answer section.number section.end.began net result.spent }
+    ensures net { HandsNetWhere status net result.net }
+{
+    if let Settled::Spent(ctc) = section.end.answer {
+        let store = net.into_store();
+        return Ended {
+            status,
+            spent: Some(SpentAt {
+                section: section.number,
+                ctc,
+                began: section.end.began,
+                now: store.measure(),
+                store,
+            }),
+            net: None,
+            found: None,
+        };
+    }
+    if status != Status::Settled {
+        return Ended::only(status);
+    }
+    Ended {
+        status,
+        spent: None,
+        net: Some(net),
+        found,
+    }
+}
+
+/// Whether queries are told: findings are asked for, and the sections were written.
+fn is_told(asked: &Asked, section: &LastSection) -> bool
+    ensures { result ≡ (is_looping asked.now.mode && is_ok section.now.written) }
+{
+    match asked.mode {
+        Mode::Solve => false,
+        Mode::Loops | Mode::Demo => section.written.is_ok(),
+    }
+}
+
+/// Tells what is found of the queries over the net of the last section and writes it, where it is asked for and the sections were written.
+fn tell<K: Sink, L: Ledger>(
+    alloc: Global,
+    asked: &Asked,
+    mission: &Mission,
+    section: &LastSection,
+    store: &Store,
+    sink: &mut K,
+    steps: &mut Steps<L>,
+) -> Result<Findings, NoMemory>
+    requires mission { IsMission mission.now }
+    requires within { section.now.upto ≤ length mission.now.items }
+    requires shape { store.now.shape ≡ shape_by mission.now.cuts (take section.now.upto mission.now.items) }
+    requires encloses { Encloses mission.now.cuts (take section.now.upto mission.now.items) store.now.box }
+    ensures told { IfOk result (λ findings. AreToldAfter K.written K.flushed K.faults mission.now asked.now section.now store.now.box sink.old sink.new findings) }
+    ensures cut_short { OnErr result (AreCutShortAfter K.written K.flushed K.faults mission.now asked.now section.now store.now.box sink.old sink.new) }
+{
+    if is_told(asked, section) {
+        return write_findings(
+            alloc,
+            mission,
+            section.upto,
+            store,
+            is_brief(asked),
+            sink,
+            steps,
+        );
+    }
+    Ok(Findings {
+        last: None,
+        written: section.written,
+    })
+}
+
+/// Settles the sections of a mission one after the other, and writes each; then it tells what is found of the queries, if that is asked for.
+pub(crate) fn report<K: Sink, L: Ledger>(
+    alloc: Global,
+    asked: &Asked,
+    mission: &Mission,
+    sink: &mut K,
+    steps: &mut Steps<L>,
+) -> Ended
+    requires { IsMission mission.now }
+    ensures ends { Stops Status.NoMemory (K.written sink.old) (K.written sink.new) result ⊎ (RunsOut mission.now asked.now (K.written sink.old) (K.written sink.new) result ⊎ RunsOutAfter mission.now asked.now (K.written sink.old) (K.written sink.new) result ⊎ Reports mission.now asked.now (K.written sink.old) (K.written sink.new) (K.flushed sink.new) result) }
+    ensures failed { result.status ≡ Status.WriteFault → Rose (K.faults sink.old) (K.faults sink.new) }
+{
+    let Ok(grid) = same_grid(alloc, &mission.cuts) else {
+        return Ended::only(Status::NoMemory);
+    };
+    let mut net = Net::new(alloc, grid);
+    let choices = Choices {
+        order: order_of(asked.order),
+        budget: asked.budget,
+        brief: is_brief(asked),
+    };
+    let Ok(section) = write_sections(alloc, mission, choices, &mut net, sink, steps) else {
+        return Ended::only(Status::NoMemory);
+    };
+    let Ok(findings) = tell(alloc, asked, mission, &section, net.store(), sink, steps) else {
+        return handed(Status::NoMemory, section, net, None);
+    };
+    let planned = status_of(verdict_of(section.end.answer));
+    let status = finish(sink, findings.written, planned);
+    handed(status, section, net, findings.last)
+}
