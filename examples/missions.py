@@ -2,7 +2,8 @@
 """Writes the missions of this folder: NAME.log, what the robot's sensors say, and NAME.truth, where it truly was.
 
 Each mission is made of a number, so that it can be made again: `examples/missions.py` writes all of them, byte for byte.
-NAME.truth has a line 'SIGNAL TICK VALUE' for each signal and tick, and a line 'VARIABLE - VALUE' for each named variable.
+NAME.truth has a line 'SIGNAL TICK VALUE' for each signal and tick, and a line 'VARIABLE - VALUE' for each named variable. Where a mission
+asks for loops, NAME.revisits has a line 'QUERY A B' for each pair of ticks at which the robot truly came back, and NAME.words the words.
 """
 import math
 import os
@@ -24,10 +25,11 @@ class Draws:
 class Mission:
     """The lines of a log, and the truth behind them."""
 
-    def __init__(self, name, ticks, width, title):
-        self.name, self.ticks = name, ticks
-        self.lines = ["# " + line for line in title] + [f"mission,1,{ticks},{width}"]
-        self.signals, self.variables = {}, {}
+    def __init__(self, name, ticks, width, title, version=1):
+        self.name, self.ticks, self.version = name, ticks, version
+        self.lines = ["# " + line for line in title] + [f"mission,{version},{ticks},{width}"]
+        self.signals, self.variables, self.queries = {}, {}, []
+        self.words = "loops"
 
     def add(self, *fields):
         self.lines.append(",".join(str(field) for field in fields))
@@ -49,15 +51,38 @@ class Mission:
         self.variables[name + ".x"], self.variables[name + ".y"] = x, y
         self.add("beacon", name, x - error, x + error, y - error, y + error)
 
+    def revisit(self, x, y, radius, gap):
+        self.queries.append((x, y, radius, gap))
+        self.add("revisit", x, y, radius, gap)
+
+    def is_near(self, dx, dy, radius):
+        """Whether two places are near: in each coordinate in version 1, by their distance in version 2."""
+        return dx * dx + dy * dy <= radius * radius if self.version == 2 else max(abs(dx), abs(dy)) <= radius
+
+    def revisits(self):
+        """The pairs of ticks of each query at which the robot truly came back."""
+        for number, (x, y, radius, gap) in enumerate(self.queries, 1):
+            xs, ys = self.signals[x], self.signals[y]
+            for a in range(self.ticks + 1):
+                for b in range(a + gap, self.ticks + 1):
+                    if self.is_near(xs[b] - xs[a], ys[b] - ys[a], radius):
+                        yield number, a, b
+
     def write(self):
         with open(os.path.join(HERE, self.name + ".log"), "w") as log:
-            log.write("\n".join(self.lines) + "\n")
+            log.writelines(line + "\n" for line in self.lines)
         with open(os.path.join(HERE, self.name + ".truth"), "w") as truth:
             for name, values in self.signals.items():
                 for tick, value in enumerate(values):
                     truth.write(f"{name} {tick} {value}\n")
             for name, value in self.variables.items():
                 truth.write(f"{name} - {value}\n")
+        if self.queries:
+            with open(os.path.join(HERE, self.name + ".revisits"), "w") as revisits:
+                for pair in self.revisits():
+                    revisits.write("{} {} {}\n".format(*pair))
+            with open(os.path.join(HERE, self.name + ".words"), "w") as words:
+                words.write(self.words + "\n")
 
 
 def walk(draws, ticks, every, speed, start=0):
@@ -214,6 +239,97 @@ def late_fix():
     mission.write()
 
 
+def legs(*parts):
+    """Rates of a path of straight legs, each of so many ticks with one rate in x and one in y, and the places that follow."""
+    u = [rate for count, rate, _ in parts for _ in range(count)]
+    v = [rate for count, _, rate in parts for _ in range(count)]
+    u, v = u + u[-1:], v + v[-1:]
+    x, y = [0], [0]
+    for tick in range(len(u) - 1):
+        x.append(x[-1] + u[tick])
+        y.append(y[-1] + v[tick])
+    return u, v, x, y
+
+
+def path(mission, parts, reach, error, every, draws):
+    """A robot on straight legs whose rates are known, with a fix of its place at every so many ticks, wrong by an error at most."""
+    u, v, x, y = legs(*parts)
+    for name, values, bound in (("x", x, reach), ("y", y, reach), ("u", u, 20), ("v", v, 20)):
+        mission.signal(name, -bound, bound, values)
+    mission.add("deriv", "x", "u")
+    mission.add("deriv", "y", "v")
+    first = 0
+    for count, rate_x, rate_y in parts:
+        last = first + count - 1 if first + count < mission.ticks else mission.ticks
+        mission.add("bound", "u", first, last, rate_x, rate_x)
+        mission.add("bound", "v", first, last, rate_y, rate_y)
+        first += count
+    for tick in range(0, mission.ticks + 1, every):
+        for name, values in (("x", x), ("y", y)):
+            off = draws.draw(-1, 1)
+            mission.add("at", name, tick, values[tick] + off - error, values[tick] + off + error)
+
+
+def lawn_mower():
+    """A survey in long legs, and then across them."""
+    parts = [(16, 10, 0), (4, 0, 10), (16, -10, 0), (4, 0, 10), (16, 10, 0), (4, 0, 10), (2, -10, 0), (16, 0, -10), (5, -10, 0), (16, 0, 10), (5, -10, 0), (16, 0, -10)]
+    ticks = sum(count for count, _, _ in parts)
+    mission = Mission("lawn_mower", ticks, 1, ["A lawn-mower survey that then crosses its own legs: where did the robot come back to where it had been?"])
+    path(mission, parts, 2000, 3, 8, Draws(21))
+    mission.revisit("x", "y", 12, 12)
+    mission.write()
+
+
+def crossing():
+    """Two legs that cross, known too badly for any one pair of ticks to be sure."""
+    parts = [(8, 10, 0), (4, 0, -10), (4, -10, 0), (8, 0, 10)]
+    ticks = sum(count for count, _, _ in parts)
+    mission = Mission("crossing", ticks, 1, ["Two legs cross. No pair of ticks is surely near, yet the robot surely came back: its path turns round the crossing."], version=2)
+    path(mission, parts, 200, 7, 1, Draws(17))
+    mission.revisit("x", "y", 13, 8)
+    mission.write()
+
+
+def near_miss():
+    """Two legs side by side, which may have touched."""
+    parts = [(12, 10, 0), (3, 0, 10), (12, -10, 0)]
+    ticks = sum(count for count, _, _ in parts)
+    mission = Mission("near_miss", ticks, 1, ["Two legs side by side, 30 millimetres apart: they may have come within 20, and nothing says that they did."])
+    path(mission, parts, 500, 9, 9, Draws(5))
+    mission.revisit("x", "y", 20, 6)
+    mission.write()
+
+
+def pcg_words(seed, count):
+    """Words of the generator PCG32 (XSH RR 64/32), whose seed of 16 bytes is made of a number by four words of another one."""
+    def turned(state):
+        word, turns = ((state >> 18 ^ state) >> 27) % 2**32, state >> 59
+        return (word >> turns | word << 32 - turns) % 2**32
+
+    bytes_of_seed = b""
+    for _ in range(4):
+        seed = (seed * 6364136223846793005 + 0xA17654E46FBE17F3) % 2**64
+        bytes_of_seed += turned(seed).to_bytes(4, "little")
+    add = int.from_bytes(bytes_of_seed[8:], "little") | 1
+    state = ((int.from_bytes(bytes_of_seed[:8], "little") + add) * 6364136223846793005 + add) % 2**64
+    for _ in range(count):
+        yield turned(state)
+        state = (state * 6364136223846793005 + add) % 2**64
+
+
+def demo(seed):
+    """What the mode 'demo' makes of a seed, made anew: its true course beside it. The program reads no log then."""
+    words = pcg_words(seed, 40)
+    mission = Mission(f"demo_{seed}", 2000, 10, [])
+    rates = [(next(words) % 41 - 20, next(words) % 41 - 20) for _ in range(20)]
+    u, v, x, y = legs(*((100, rate_x, rate_y) for rate_x, rate_y in rates))
+    for name, values in (("x", x), ("y", y), ("u", u), ("v", v)):
+        mission.signal(name, -50000, 50000, values)
+    mission.revisit("x", "y", 200, 200)
+    mission.lines, mission.words = [], f"demo --seed {seed}"
+    mission.write()
+
+
 def too_far():
     """A range that no robot of this speed can have measured."""
     mission = Mission("out_of_reach", 20, 5, ["No trajectory fits: the beacon is 5 metres away, the range at tick 20 says 100 millimetres, and the speed is at most 20 a tick."])
@@ -230,4 +346,8 @@ if __name__ == "__main__":
     clocks()
     robots()
     late_fix()
+    lawn_mower()
+    crossing()
+    near_miss()
+    demo(7)
     too_far()
