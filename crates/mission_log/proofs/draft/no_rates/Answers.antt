@@ -1,7 +1,0 @@
-use Rattle.std.proofs.Common.{refl, false}
-use Rattle.std.specs.Prelude.{replicate}
-use Rattle.mission_log.proofs.Records.{false_at}
-use Rattle.mission_log.proofs.draft.no_rates.Goals as goal
-
-pub returns : goal.returns
-returns c = λ x small. false_at (replicate 64 false) x refl
