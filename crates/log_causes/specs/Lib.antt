@@ -1,0 +1,4 @@
+pub mod Uses
+pub mod Items
+pub mod Sentences
+pub mod Laws
