@@ -7,6 +7,7 @@ ghost use Rattle.std.specs.Prelude.{◌≡◌, ◌<◌};
 use cli_words::Words;
 use codac_run::{Ended, Status, run};
 use std::alloc::Global;
+use std::io::BufWriter;
 use std::marker::Brand;
 use std::process::ExitCode;
 use std::rt::Env;
@@ -50,19 +51,19 @@ fn run_counted<S: Source, K: Sink, L: Ledger>(
     run(alloc, words, source, sink, &mut steps)
 }
 
+// A run from standard input to standard output. What is written waits in a buffer until that is full or the run flushes it.
+fn run_on_standard_ends(rt: &(impl Input + Print + AllocGlobal), words: &Words) -> Status {
+    let Ok(writer) = BufWriter::new(rt.alloc(), io::writer(rt)) else {
+        return Status::NoMemory;
+    };
+    let mut source = RealSource::new(rt.reader());
+    let mut sink = RealSink::new(writer);
+    run_counted::<_, _, Brand>(rt.alloc(), words, &mut source, &mut sink, Blank::new(1)).status
+}
+
 fn main(rt: HostRuntime) -> ExitCode {
     let status = match words_of(&rt) {
-        Ok(words) => {
-            let mut source = RealSource::new(rt.reader());
-            let mut sink = RealSink::new(io::writer(&rt));
-            run_counted::<_, _, Brand>(
-                rt.alloc(),
-                &words,
-                &mut source,
-                &mut sink,
-                Blank::new(1),
-            ).status
-        }
+        Ok(words) => run_on_standard_ends(&rt, &words),
         Err(NoMemory) => Status::NoMemory,
     };
     ExitCode::from(status as u8)

@@ -1,13 +1,7 @@
-//! Worked missions, over the crates together: settled on a network that is built by hand, and run from bytes to bytes. All expected
-//! numbers were worked out from the formulas, and none was taken from the program.
+//! Worked missions, run from bytes to bytes over the crates together. All expected numbers were worked out from the formulas, and none
+//! was taken from the program.
 #![tactic(auto)]
 
-#[cfg(test)]
-mod net_dead_reckoning;
-#[cfg(test)]
-mod net_expressions;
-#[cfg(test)]
-mod net_localising;
 #[cfg(test)]
 mod read_logs;
 #[cfg(test)]
