@@ -18,8 +18,6 @@
 mod boxes;
 mod constell;
 mod laws;
-#[cfg(test)]
-mod tests;
 
 pub use constell::ConstellCtc;
 pub use laws::constell_law;

@@ -24,8 +24,6 @@ mod laws;
 mod places;
 mod possible;
 mod shift;
-#[cfg(test)]
-mod tests;
 mod to;
 
 pub use from::DelayFrom;

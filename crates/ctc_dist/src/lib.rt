@@ -20,8 +20,6 @@
 mod dist;
 mod laws;
 mod squares;
-#[cfg(test)]
-mod tests;
 
 pub use dist::DistCtc;
 pub use laws::dist_law;

@@ -15,8 +15,6 @@ mod laws;
 mod near;
 mod readings;
 mod sweep;
-#[cfg(test)]
-mod tests;
 
 pub use eval::EvalCtc;
 pub use laws::{declared_law, eval_law, near_law};

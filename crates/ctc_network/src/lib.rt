@@ -18,8 +18,6 @@ mod laws;
 mod net;
 mod readers;
 mod roster;
-#[cfg(test)]
-mod tests;
 
 pub use answers::{AddFault, CtcId, Order, Settled};
 pub use laws::{schedule_law, section_law};

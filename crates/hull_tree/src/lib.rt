@@ -21,8 +21,6 @@ mod hulls;
 mod laws;
 mod ranges;
 mod revisit;
-#[cfg(test)]
-mod tests;
 mod tree;
 
 pub use laws::{possible_law, sure_law};

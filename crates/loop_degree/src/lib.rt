@@ -22,8 +22,6 @@ mod cells;
 mod check;
 mod labels;
 mod laws;
-#[cfg(test)]
-mod tests;
 
 pub use cells::{boundary_corners, is_rising};
 pub use check::check_cells;

@@ -7,8 +7,6 @@
 mod bounds;
 mod labels;
 mod laws;
-#[cfg(test)]
-mod tests;
 
 pub use bounds::{greatest_step, step_bound};
 pub use labels::{label, labels_of};

@@ -6,8 +6,6 @@
 pub mod found;
 pub mod laws;
 pub mod query;
-#[cfg(test)]
-mod tests;
 
 pub use found::Found;
 pub use loop_sets::Finding;

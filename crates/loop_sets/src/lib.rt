@@ -10,8 +10,6 @@ mod finding;
 mod laws;
 mod sure;
 mod table;
-#[cfg(test)]
-mod tests;
 mod tube;
 mod turns;
 

@@ -10,8 +10,6 @@ mod motion;
 mod points;
 mod records;
 mod section;
-#[cfg(test)]
-mod tests;
 
 use ctc_constell::ConstellCtc;
 use ctc_core::{Contractor, Revised};
@@ -145,6 +143,8 @@ impl Contractor for AnyCtc {
         }
     }
 
+    // Never inlined, so that a profiler can count firings.
+    #[inline(never)]
     fn revise<L: Ledger>(&self, store: &mut Store, steps: &mut Steps<L>) -> Revised {
         match self {
             AnyCtc::Slice(c) => c.revise(store, steps),

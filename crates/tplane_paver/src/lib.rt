@@ -20,8 +20,6 @@ mod paving;
 mod rows;
 mod runs;
 mod sweep;
-#[cfg(test)]
-mod tests;
 
 pub use classes::{Component, components};
 pub use paving::{PaveFault, pave};

@@ -1,4 +1,0 @@
-use Rattle.ctc_delay.proofs.tests.backward.Given as goal
-
-abbrev pub ghosts-fired : goal.ghosts-fired
-ghosts-fired g a = record { name = a.blank.name; parts = a.blank.parts }

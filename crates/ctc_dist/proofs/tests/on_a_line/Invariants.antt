@@ -1,4 +1,0 @@
-use Rattle.ctc_dist.proofs.tests.on_a_line.Given as goal
-
-abbrev pub ghosts-fired : goal.ghosts-fired
-ghosts-fired g a = record { name = a.blank.name; parts = a.blank.parts }
