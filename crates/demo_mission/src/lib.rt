@@ -9,8 +9,6 @@ ghost use Rattle.log_text.specs.Texts.{log_text};
 
 mod log;
 mod record;
-#[cfg(test)]
-mod tests;
 
 use crate::log::records;
 use demo_course::{Axis, Course, LAST_TICK};

@@ -19,5 +19,3 @@ pub use fault::ExprFault;
 pub use parser::parse;
 pub use printer::print;
 
-#[cfg(test)]
-mod tests;

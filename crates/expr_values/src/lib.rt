@@ -9,8 +9,6 @@ mod comparisons;
 mod laws;
 mod operators;
 mod terms;
-#[cfg(test)]
-mod tests;
 
 pub use comparisons::{left_of, right_of};
 pub use laws::expression_law;

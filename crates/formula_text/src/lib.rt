@@ -14,5 +14,3 @@ pub use formula::Formula;
 pub use printer::print_formula;
 pub use reader::read_formula;
 
-#[cfg(test)]
-mod tests;

@@ -18,5 +18,3 @@ pub mod texts;
 pub use fault::{Cause, Stop};
 pub use fields::Reference;
 
-#[cfg(test)]
-mod tests;

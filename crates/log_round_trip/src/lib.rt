@@ -33,5 +33,3 @@ pub fn canonical(alloc: Global, log: &[u8]) -> Result<Vec<u8>, LogFault>
     Ok(text)
 }
 
-#[cfg(test)]
-mod tests;

@@ -17,5 +17,3 @@ mod signals;
 
 pub use print::print_log;
 
-#[cfg(test)]
-mod tests;

@@ -7,8 +7,6 @@
 pub mod decl;
 pub mod item;
 pub mod mission;
-#[cfg(test)]
-mod tests;
 
 pub use decl::Decl;
 pub use item::{Item, Leaves};

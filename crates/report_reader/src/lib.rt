@@ -7,8 +7,6 @@ pub mod laws;
 mod lines;
 pub mod read;
 pub mod section;
-#[cfg(test)]
-mod tests;
 mod words;
 
 pub use read::read_section;

@@ -7,8 +7,6 @@
 pub mod laws;
 pub mod refusal;
 pub mod section;
-#[cfg(test)]
-mod tests;
 pub mod tube;
 
 pub use refusal::{write_fault, write_usage};

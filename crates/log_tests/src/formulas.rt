@@ -1,8 +1,8 @@
 //! Formulas read and printed.
 
-use crate::{Formula, print_formula, read_formula};
 use expr_text::ExprFault;
 use expr_tree::{Rel, RelOp, Term};
+use formula_text::{Formula, print_formula, read_formula};
 use std::alloc::Global;
 use tube_io::{NoMemory, Text};
 

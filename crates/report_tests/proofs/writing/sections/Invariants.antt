@@ -1,5 +1,5 @@
 use Rattle.std.proofs.Common.{◌≡◌}
-use Rattle.tube_report.proofs.tests.sections.Given as goal
+use Rattle.report_tests.proofs.writing.sections.Given as goal
 
 -- narrowing leaves the shape
 abbrev pub invariant-loop-cell : goal.invariant-loop-cell

@@ -1,6 +1,6 @@
 //! Logs that are read, printed and read again.
 
-use crate::canonical;
+use log_round_trip::canonical;
 use log_text::print_log;
 use mission_log::{Cause, LogFault, Mission, read_log};
 use std::alloc::Global;

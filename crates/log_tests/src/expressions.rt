@@ -1,6 +1,6 @@
 //! Texts that are relations, and texts that are none.
 
-use crate::{ExprFault, parse, print};
+use expr_text::{ExprFault, parse, print};
 use expr_tree::Rel;
 use std::alloc::Global;
 use tube_io::NoMemory;

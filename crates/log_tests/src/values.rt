@@ -1,7 +1,7 @@
 //! Values and targets of terms built by hand, worked out from the definitions.
 
-use crate::{BinaryOp, UnaryOp, left_of, range_of, right_of};
 use expr_tree::{RelOp, Term};
+use expr_values::{BinaryOp, UnaryOp, left_of, range_of, right_of};
 use int_interval::Interval;
 use std::process::Abort;
 use tube_io::{NoMemory, Text};

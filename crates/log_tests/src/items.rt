@@ -1,6 +1,6 @@
-use crate::{Item, Items, Leaves};
 use expr_hc4::Leaf;
 use int_interval::Interval;
+use mission_items::{Item, Items, Leaves};
 use std::test::Fail;
 use tube_io::Text;
 use tube_store::{SignalId, VarId};

@@ -4,7 +4,6 @@ ghost use Rattle.std.specs.Prelude.{◌≡◌, ◌↔◌, ◌≤◌, ◌≤ℤ�
 ghost use Rattle.mission_items.specs.Made.{signals_in, variables_in};
 ghost use Rattle.tube_spec.specs.Span.{IsBounded};
 
-use super::*;
 use int_interval::Interval;
 use log_fields::Cause;
 use mission_items::{Item, Items, Mission};
@@ -13,6 +12,7 @@ use std::alloc::Global;
 use std::process::Abort;
 use std::test::Fail;
 use tube_io::{NoMemory, SureSink, Text};
+use tube_report::*;
 use tube_store::{CellId, Cut, SignalId, Store};
 
 fn range(lo: i64, hi: i64) -> Interval

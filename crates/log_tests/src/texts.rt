@@ -1,7 +1,7 @@
 //! The text of a mission that is made by hand; the crate of the round trip has those of missions that are read.
 
-use crate::print_log;
 use int_interval::Interval;
+use log_text::print_log;
 use mission_items::{Item, Items, Mission};
 use slice_gates::Grid;
 use std::test::Fail;

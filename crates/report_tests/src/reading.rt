@@ -1,7 +1,7 @@
 //! The text of a section, and texts with one fault each.
 
-use super::*;
 use int_interval::Interval;
+use report_reader::*;
 use std::alloc::Global;
 use std::test::Fail;
 use tube_io::Text;

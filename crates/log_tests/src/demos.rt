@@ -1,4 +1,4 @@
-use crate::{Demo, make_demo, make_mission};
+use demo_mission::{Demo, make_demo, make_mission};
 use std::process::Abort;
 use std::test::Fail;
 

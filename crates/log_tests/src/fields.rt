@@ -1,13 +1,13 @@
 //! Records with faults, and what records say.
 
-use crate::clock::{cut_fields, mission_fields};
-use crate::declaring::{beacon_fields, declared_fields};
-use crate::points::{constell_fields, ping_fields, range_fields, range3_fields};
-use crate::signals::{at_fields, bound_fields, delay_fields, deriv_fields, eval_fields};
-use crate::texts::{revisit_fields, settle_fields, text_fields};
-use crate::{Cause, Reference, Stop};
 use csv::ByteRecord;
 use csv_rows::Rows;
+use log_fields::clock::{cut_fields, mission_fields};
+use log_fields::declaring::{beacon_fields, declared_fields};
+use log_fields::points::{constell_fields, ping_fields, range_fields, range3_fields};
+use log_fields::signals::{at_fields, bound_fields, delay_fields, deriv_fields, eval_fields};
+use log_fields::texts::{revisit_fields, settle_fields, text_fields};
+use log_fields::{Cause, Reference, Stop};
 use log_spelling::{Kind, Part};
 use std::alloc::Global;
 use std::process::Abort;
