@@ -1,7 +1,9 @@
 """Programs that the benches time: built on first use, and run with their words."""
 import os
+import shutil
 import subprocess
 import sys
+import tempfile
 import time
 
 HERE = os.path.dirname(os.path.abspath(__file__))
@@ -19,19 +21,26 @@ def program(name):
     return path
 
 
-def run(path, *words):
-    """Returns what one run prints, its seconds and its peak of memory in bytes."""
-    began = time.perf_counter()
-    job = subprocess.Popen([path, *map(str, words)], stdin=subprocess.DEVNULL, stdout=subprocess.PIPE)
-    printed = job.stdout.read().decode().strip()
-    _, status, used = os.wait4(job.pid, 0)
-    seconds = time.perf_counter() - began
-    if os.waitstatus_to_exitcode(status) != 0:
-        sys.exit(f"{path} {' '.join(map(str, words))} ended with status {os.waitstatus_to_exitcode(status)}")
-    return printed, seconds, used.ru_maxrss * 1024
+def measured(*words, log=None, wanted=0):
+    """Returns what one run prints, its seconds and its peak of memory in bytes; it has to end with the wanted status.
+
+    The peak is what the command `time` tells, where it is installed; else it is never below that of the script that starts the program.
+    """
+    timer = shutil.which("time")
+    with tempfile.NamedTemporaryFile() as peak, open(log or os.devnull, "rb") as source:
+        words = [str(word) for word in words]
+        began = time.perf_counter()
+        job = subprocess.Popen(([timer, "-q", "-f", "%M", "-o", peak.name] if timer else []) + words, stdin=source, stdout=subprocess.PIPE)
+        printed = job.stdout.read()
+        _, status, used = os.wait4(job.pid, 0)
+        seconds = time.perf_counter() - began
+        memory = int(peak.read()) if timer else used.ru_maxrss
+    if os.waitstatus_to_exitcode(status) != wanted:
+        sys.exit(f"{' '.join(words)} ended with status {os.waitstatus_to_exitcode(status)}: {printed[:100]!r}")
+    return printed.decode().strip(), seconds, memory * 1024
 
 
 def least(path, *words, turns=5):
     """Returns what a program prints, the least time of some runs and the peak of memory."""
-    runs = [run(path, *words) for _ in range(turns)]
+    runs = [measured(path, *words) for _ in range(turns)]
     return runs[0][0], min(seconds for _, seconds, _ in runs), max(memory for _, _, memory in runs)

@@ -18,4 +18,3 @@ mod token;
 pub use fault::ExprFault;
 pub use parser::parse;
 pub use printer::print;
-

@@ -13,4 +13,3 @@ pub mod reader;
 pub use formula::Formula;
 pub use printer::print_formula;
 pub use reader::read_formula;
-

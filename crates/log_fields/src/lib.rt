@@ -17,4 +17,3 @@ pub mod texts;
 
 pub use fault::{Cause, Stop};
 pub use fields::Reference;
-

@@ -32,4 +32,3 @@ pub fn canonical(alloc: Global, log: &[u8]) -> Result<Vec<u8>, LogFault>
     let text = print_log(alloc, &mission)?;
     Ok(text)
 }
-

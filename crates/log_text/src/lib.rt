@@ -16,4 +16,3 @@ mod questions;
 mod signals;
 
 pub use print::print_log;
-
