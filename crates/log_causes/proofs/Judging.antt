@@ -43,7 +43,7 @@ use Rattle.log_causes.specs.Sentences.{are_declared, are_in_order, are_leaves, a
 use Rattle.log_causes.specs.Laws.{judged}
 use Rattle.log_causes.proofs.Chains.{failing, fields_then, in_line, judged_then, kind_judged, mission_judged, own_cause, own_then, room_left, room_then, test_then, tick_judged, ticks_judged, version_judged}
 use Rattle.log_causes.proofs.Said.{at-said, beacon-said, beacon_said, bound-said, constell-said, cut-said, declared-said, delay-said, deriv-said, eval-said, mission-said, ping-said, range-said, range3-said, reference_said, revisit-said, text-said, version_said}
-use Rattle.log_causes.proofs.Naming.{all_found, all_map, map_map, named_cause, nest_judged, one_signal, signal_and_variables, signals_and_mark, signals_and_variable, two_signals}
+use Rattle.log_causes.proofs.Naming.{all_found, all_map, found_by, is_found, map_map, named_cause, nest_judged, one_signal, signal_and_variables, signals_and_mark, signals_and_variable, two_signals}
 
 -- ---- the sentences of a kind
 
@@ -238,14 +238,11 @@ settle-judged d r =
 -- ---- texts
 
 -- the names of a formula, each of which has to be declared and then to stand for something
-abbrev is_declared_by : List Item → List ℕ × Part → Bool
-is_declared_by items ref = is_some (declaration_of ref.0 items)
-
-abbrev is_right_by : {Y : Type 0} → (Decl → Part → Option Y) → List Item → List ℕ × Part → Bool
-is_right_by found items ref = is_some (option_and_then (λ d. found d ref.1) (declaration_of ref.0 items))
+abbrev is_right : {Y : Type 0} → (Decl → Part → Option Y) → List Item → List ℕ × Part → Bool
+is_right found items ref = is_some (found_by found items ref)
 
 abbrev named_by : {Y : Type 0} → (Decl → Part → Option Y) → Y → List Item → List ℕ × Part → Y
-named_by found nobody items ref = unwrap_or (option_and_then (λ d. found d ref.1) (declaration_of ref.0 items)) nobody
+named_by found nobody items ref = unwrap_or (found_by found items ref) nobody
 
 text_names : {A Y : Type 0} (found : Decl → Part → Option Y) (nobody : Y) (items : List Item) (names : List (List ℕ)) (f : List Y → Result A Cause)
     → (declarations_in items (map reference_in names) >>= (λ ds. each (λ d. found_or (found d.0 d.1) cause.WrongKind) ds >>= f))
@@ -256,9 +253,9 @@ text_names : {A Y : Type 0} (found : Decl → Part → Option Y) (nobody : Y) (i
     else Err cause.Unknown)
 text_names {A} {Y} found nobody items names f =
     all_found found nobody items (map reference_in names) f
-    ∙ (ap (λ a. nest a (list_all (is_right_by found items) (map reference_in names)) (map (named_by found nobody items) (map reference_in names))) (all_map (is_declared_by items) reference_in names)
-    ∙ (ap (λ b. nest (list_all (λ n. is_declared_by items (reference_in n)) names) b (map (named_by found nobody items) (map reference_in names))) (all_map (is_right_by found items) reference_in names)
-    ∙ ap (λ ys. nest (list_all (λ n. is_declared_by items (reference_in n)) names) (list_all (λ n. is_right_by found items (reference_in n)) names) ys) (map_map (named_by found nobody items) reference_in names)))
+    ∙ (ap (λ a. nest a (list_all (is_right found items) (map reference_in names)) (map (named_by found nobody items) (map reference_in names))) (all_map (is_found items) reference_in names)
+    ∙ (ap (λ b. nest (list_all (λ n. is_found items (reference_in n)) names) b (map (named_by found nobody items) (map reference_in names))) (all_map (is_right found items) reference_in names)
+    ∙ ap (λ ys. nest (list_all (λ n. is_found items (reference_in n)) names) (list_all (λ n. is_right found items (reference_in n)) names) ys) (map_map (named_by found nobody items) reference_in names)))
   where
     nest : Bool → Bool → List Y → Result A Cause
     nest a b ys = if a then (if b then f ys else Err cause.WrongKind) else Err cause.Unknown
@@ -281,22 +278,18 @@ expr-judged d r =
     behind k d r _ _ (fields_then (text_fields r) _ (own_of k r) (later_of d k r) (field r 1) _ (lowest_told r).expr (text-said r) (each_after d (reading_of (field r 1))))
 
 -- a name stands for a variable where it stands for a leaf and that is a variable
+as_leaf : (v : Option VarId) → (is_some (option_map Var v) && is_variable (unwrap_or (option_map Var v) (Var (record { 0 = 0 })))) ≡ is_some v
+as_leaf None = refl
+as_leaf (Some v) = refl
+
 one_variable : (p : Part) (o : Option Decl)
     → (is_some (option_and_then (λ d. leaf_of d p) o) && is_variable (unwrap_or (option_and_then (λ d. leaf_of d p) o) (Var (record { 0 = 0 })))) ≡ is_some (option_and_then (λ d. variable_of d p) o)
 one_variable p None = refl
 one_variable part.Whole (Some (decl.Signal id range)) = refl
 one_variable part.X (Some (decl.Signal id range)) = refl
 one_variable part.Y (Some (decl.Signal id range)) = refl
-one_variable p (Some (decl.Variable id range)) = mapped (variable_of (decl.Variable id range) p)
-  where
-    mapped : (v : Option VarId) → (is_some (option_map Var v) && is_variable (unwrap_or (option_map Var v) (Var (record { 0 = 0 })))) ≡ is_some v
-    mapped None = refl
-    mapped (Some v) = refl
-one_variable p (Some (decl.Beacon place first x y)) = mapped (variable_of (decl.Beacon place first x y) p)
-  where
-    mapped : (v : Option VarId) → (is_some (option_map Var v) && is_variable (unwrap_or (option_map Var v) (Var (record { 0 = 0 })))) ≡ is_some v
-    mapped None = refl
-    mapped (Some v) = refl
+one_variable p (Some (decl.Variable id range)) = as_leaf (variable_of (decl.Variable id range) p)
+one_variable p (Some (decl.Beacon place first x y)) = as_leaf (variable_of (decl.Beacon place first x y) p)
 
 both_ands : (a all b every : Bool) → ((a && all) && (b && every)) ≡ ((a && b) && (all && every))
 both_ands false all b every = refl
