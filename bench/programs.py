@@ -1,4 +1,4 @@
-"""Programs that the benches time: built on first use, and run with their words."""
+"""The programs that the benches time, and a run of one with its words."""
 import os
 import shutil
 import subprocess
@@ -19,6 +19,19 @@ def program(name):
     if not os.path.exists(path):
         sys.exit(f"{name}: the build failed; 'rt run' in crates/{name} says why")
     return path
+
+
+def codac_cli():
+    """Returns the path of the program that the command line names, else of the proved codac_cli."""
+    return sys.argv[1] if len(sys.argv) > 1 else proved()
+
+
+def proved():
+    """Returns the path of the proved codac_cli."""
+    found = subprocess.run([os.path.join(HERE, "..", "bin", "prove"), "--path"], stdout=subprocess.PIPE, text=True)
+    if found.returncode:
+        sys.exit("no current proved program is there: run bin/prove first")
+    return found.stdout.strip()
 
 
 def measured(*words, log=None, wanted=0):
