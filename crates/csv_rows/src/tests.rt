@@ -5,7 +5,7 @@ use csv::ByteRecord;
 use std::alloc::Global;
 use std::test::Fail;
 
-/// The records of a text, each field followed by `|` and each record by `;`.
+// The records of a text, each field followed by `|` and each record by `;`.
 fn shown(alloc: Global, text: &[u8]) -> Result<Vec<u8>, Fail> {
     let mut rows = Rows::new(alloc, text);
     let mut row = ByteRecord::new(alloc);

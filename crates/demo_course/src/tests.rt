@@ -1,3 +1,5 @@
+//! Courses of some seeds, and what they keep.
+
 use crate::{Axis, BEACONS, Course, LAST_TICK, STRETCHES, whole_root};
 use std::process::Abort;
 use std::test::Fail;

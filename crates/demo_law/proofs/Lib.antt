@@ -1,3 +1,4 @@
 pub mod Lookups
 pub mod Saying
 pub mod Satisfied
+pub mod Promise

@@ -7,6 +7,7 @@ ghost use Rattle.demo_course.specs.Draws.{words_of};
 ghost use Rattle.demo_spec.specs.Mission.{demo_cuts, demo_mission};
 ghost use Rattle.log_text.specs.Texts.{log_text};
 
+pub mod laws;
 mod log;
 mod record;
 

@@ -8,11 +8,11 @@ ghost use Rattle.demo_course.specs.Laws.{within};
 ghost use Rattle.demo_spec.specs.Mission.{around, beacon_name, beacon_of, bound_of, last_of, ping_of, position_signal, question, rate_signal, start_of};
 
 use demo_course::{Axis, BEACONS, Course, LAST_TICK, STRETCHES};
-use hull_tree::{Norm, Query};
 use int_interval::Interval;
 use mission_items::Item;
 use std::alloc::Global;
 use tube_io::{NoMemory, Text};
+use tube_names::{Norm, Query};
 use tube_store::SignalId;
 
 // The signal of a position along an axis.

@@ -6,9 +6,9 @@ use Rattle.std.proofs.lemmas.List.{map-append}
 use Rattle.std.proofs.lemmas.List.Folds.{list_any-append}
 use Rattle.std.proofs.lemmas.List.Sums.{sum_by_push}
 use Rattle.tube_spec.specs.Span.{Span}
-use Rattle.ctc_eval.specs.Clock.{ticks_of}
-use Rattle.ctc_eval.specs.Near.{near_of, near_to}
-use Rattle.ctc_eval.specs.declared.clock.Ticks.{Ticks}
+use Rattle.slice_gates.specs.Clock.{ticks_of}
+use Rattle.slice_gates.specs.Near.{near_of, near_to}
+use Rattle.slice_gates.specs.declared.clock.Ticks.{Ticks}
 use Rattle.mission_items.specs.Made.{beacons_in, beacons_made, has_head, is_head, signals_in, signals_made, variables_in, variables_made}
 use Rattle.mission_items.specs.Names.{declaration_of, declared, names_of}
 use Rattle.mission_items.specs.Room.{evaluation_foot, feet_of, foot_of, slices_near, touching}

@@ -133,7 +133,7 @@ module _ (words : List ℕ) where
       let beacons = each-step (λ i. beacon_of words i ∷ []) (λ k items. IsTold items (4 + 2 * k) k (names_until k)) (opening ++ each_until (bounds_of words) 20) 5 bounds beacon-told in
       each-step (λ i. ping_of words i ∷ []) (λ i items. IsTold items (14 + 3 * i) 5 (names_until 5)) (opening ++ each_until (bounds_of words) 20 ++ each_until (λ i. beacon_of words i ∷ []) 5) 40 beacons ping-told
 
-  asked : IsQuery 1 2000 reports (record { x = record { 0 = 0 }; y = record { 0 = 1 }; radius = pos 200; gap = 200; norm = Rattle.hull_tree.specs.declared.revisit.Norm.TheVariants.Maximum })
+  asked : IsQuery 1 2000 reports (record { x = record { 0 = 0 }; y = record { 0 = 1 }; radius = pos 200; gap = 200; norm = Rattle.tube_names.specs.declared.queries.Norm.TheVariants.Maximum })
   asked = record {
     signals = two-signals reports reports-told.signals_are;
     radius = (omega (arith, ints), omega (arith, ints), omega (arith, ints));

@@ -3,7 +3,7 @@ use Rattle.std.specs.Prelude.{ℕ, zero, suc, ◌+◌, ◌-◌, ◌*◌, ◌%◌
 use Rattle.tube_spec.specs.Span.{Span, point}
 use Rattle.slice_gates.specs.Cuts.{uniform_cuts}
 use Rattle.tube_store.specs.declared.SignalId.{SignalId}
-use Rattle.hull_tree.specs.declared.revisit.Norm.TheVariants.{Maximum}
+use Rattle.tube_names.specs.declared.queries.Norm.TheVariants.{Maximum}
 use Rattle.mission_items.specs.declared.item.Item.{Item}
 use Rattle.mission_items.specs.declared.item.Item.TheVariants as item
 use Rattle.mission_items.specs.declared.mission.Mission.{Mission}

@@ -23,7 +23,7 @@ fn is_within_levels(term: &Term, levels: u32) -> bool
     }
 }
 
-/// The greatest depth of a relation: nodes on the longest way from it to a leaf, both ends included.
+// The greatest depth of a relation: nodes on the longest way from it to a leaf, both ends included.
 const MAX_DEPTH: u32 = 32;
 
 /// Whether a relation is within the greatest depth.

@@ -2,12 +2,13 @@
 
 ghost use Rattle.std.specs.Prelude.{◌≡◌, IfOk, slice_index};
 ghost use Rattle.std.specs.List.{prefix_len};
-ghost use Rattle.log_spelling.specs.Names.{is_letter, is_name_byte};
+ghost use Rattle.log_spelling.specs.Names.{is_name_byte};
 ghost use Rattle.log_spelling.specs.Numbers.{is_digit};
 ghost use Rattle.expr_text.specs.Spelling.{function_of, is_coordinate, number_at, symbol_at, token_at, without_spaces, word_at};
 
 use expr_tree::RelOp;
 use log_spelling::is_name;
+use log_spelling::name::{is_letter, is_name_byte};
 use log_spelling::number::{is_digit, magnitude_of};
 use std::alloc::Global;
 use tube_io::{NoMemory, Text};
@@ -41,18 +42,6 @@ pub enum Token {
     Comma,
     /// `=`, `<`, `<=`, `>` or `>=`.
     Compare(RelOp),
-}
-
-fn is_letter(c: u8) -> bool
-    ensures { result ≡ is_letter c }
-{
-    b'A' <= c && c <= b'Z' || b'a' <= c && c <= b'z'
-}
-
-fn is_name_byte(c: u8) -> bool
-    ensures { result ≡ is_name_byte c }
-{
-    is_letter(c) || is_digit(c) || c == b'_'
 }
 
 // The byte at an index, and 0 behind the end.

@@ -1,6 +1,7 @@
 -- The operators on spans: what they make of their operands, and what a target of that leaves of each operand.
 use Rattle.std.specs.Prelude.{◌&&◌, Bool, cond, Option, Some, None, ℤ, pos, ◌+ℤ◌, ◌-ℤ◌, ◌*ℤ◌, neg_ℤ, int_le}
 use Rattle.std.specs.Int.{int_min, int_max}
+use Rattle.tube_spec.specs.Limits.{interval_bound}
 use Rattle.tube_spec.specs.Span.{Span, meet_of, add_of, sub_of}
 use Rattle.tube_spec.specs.Hull.{proper}
 use Rattle.int_interval.specs.Image.{int_abs, neg_of, abs_of, min_of, max_of, mul_of, sqr_of}
@@ -64,7 +65,7 @@ binary_number Max p q = int_max p q
 
 -- both ends of a span are at most 4 * 10^18 in absolute value, the bound of every interval
 abbrev pub is_bounded : Span → Bool
-is_bounded a = int_le (neg_ℤ (pos 4000000000000000000)) a.lo && int_le a.hi (pos 4000000000000000000)
+is_bounded a = int_le (neg_ℤ (pos interval_bound)) a.lo && int_le a.hi (pos interval_bound)
 
 -- a span within the bound, nothing where it leaves it
 abbrev pub bounded : Span → Option Span

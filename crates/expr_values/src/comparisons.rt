@@ -1,3 +1,5 @@
+//! What a comparison leaves of its two sides.
+
 ghost use Rattle.std.specs.Prelude.{◌≡◌};
 ghost use Rattle.expr_values.specs.Comparisons.{up_to, from, left_of, right_of};
 

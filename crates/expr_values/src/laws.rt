@@ -1,3 +1,5 @@
+//! What holds of every expression and every comparison.
+
 ghost use Rattle.std.specs.Prelude.{◌≡◌, ℕ, ℤ, List};
 ghost use Rattle.tube_spec.specs.Span.{Span, Holds, IsWithin};
 ghost use Rattle.tube_spec.specs.Narrowing.{IsWithinNarrowing};

@@ -1,3 +1,5 @@
+//! The operators, each with its value and what it leaves of its operands.
+
 ghost use Rattle.std.specs.Prelude.{◌≡◌};
 ghost use Rattle.expr_values.specs.Operators.{bounded, unary_value, unary_target, binary_value, left_target, right_target};
 ghost use Rattle.tube_spec.specs.Span.{add_of, sub_of};

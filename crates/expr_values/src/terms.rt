@@ -1,3 +1,5 @@
+//! The values of terms.
+
 ghost use Rattle.std.specs.Prelude.{◌≡◌, ◌+◌, ◌≤◌, length, IsSome};
 ghost use Rattle.expr_tree.specs.Trees.{tree_of};
 ghost use Rattle.expr_values.specs.Expressions.{Unary, Binary, leaves, numbered};

@@ -1,9 +1,10 @@
 -- The definitions tried on numbers.
 use Rattle.std.proofs.Common.{◌≡◌, ℕ, true, false, [], ◌∷◌, pos, negsuc, ℤ, refl}
 use Rattle.tube_spec.specs.Span.{Span, point}
-use Rattle.hull_tree.specs.Plane.{Plane, is_near, is_possible, is_sure, least_abs, greatest_abs, change}
+use Rattle.hull_tree.specs.Plane.{Plane, is_possible, is_sure, least_abs, greatest_abs, change}
+use Rattle.tube_names.specs.Nearness.{is_near}
 use Rattle.hull_tree.specs.Judging.{judged}
-use Rattle.hull_tree.specs.declared.revisit.Norm.TheVariants.{Maximum, Disc}
+use Rattle.tube_names.specs.declared.queries.Norm.TheVariants.{Maximum, Disc}
 use Rattle.hull_tree.specs.declared.tree.Judged.TheVariants.{Out, Within, Mixed}
 
 -- five ticks, of which the last two go the way of the first two back

@@ -6,11 +6,12 @@ use Rattle.std.proofs.Math.Nat.{mul-le-mul_left}
 use Rattle.std.proofs.lemmas.Bool.Decides.{nat_tests}
 use Rattle.tube_spec.specs.Span.{Span, natural, sub_of, IsBounded, IsProper}
 use Rattle.tube_spec.specs.Box.{cell_at, IsBox, AreBounded}
-use Rattle.hull_tree.specs.Plane.{Plane, is_near, is_possible, is_valid, least_abs, change}
+use Rattle.hull_tree.specs.Plane.{Plane, is_possible, is_valid, least_abs, change}
+use Rattle.tube_names.specs.Nearness.{is_near}
 use Rattle.hull_tree.specs.declared.hulls.Bounds.{Bounds}
 use Rattle.hull_tree.specs.Judging.{IsSmall, bounds_of, bounds_over, both, TickBox, IsInBox, least_gap, greatest_gap, judged, is_out, is_within, Says, over_a, over_b}
-use Rattle.hull_tree.specs.declared.revisit.Norm.{Norm}
-use Rattle.hull_tree.specs.declared.revisit.Norm.TheVariants.{Maximum, Disc}
+use Rattle.tube_names.specs.declared.queries.Norm.{Norm}
+use Rattle.tube_names.specs.declared.queries.Norm.TheVariants.{Maximum, Disc}
 use Rattle.hull_tree.specs.declared.tree.Judged.TheVariants.{Out, Within, Mixed}
 
 -- an interval's bounds lie between those of a range

@@ -13,7 +13,7 @@ use Rattle.tube_spec.specs.Assignment.{Assignment, value_at, IsHull}
 use Rattle.tube_spec.proofs.Ticks.{at_tick-holds}
 use Rattle.hull_tree.specs.Plane.{plane_of, tube_of, is_valid, is_possible, is_sure, least_abs, greatest_abs, change}
 use Rattle.hull_tree.specs.Revisits.{magnitude, IsRevisit}
-use Rattle.hull_tree.specs.declared.revisit.Query.{Query}
+use Rattle.tube_names.specs.declared.queries.Query.{Query}
 use Rattle.hull_tree.proofs.Judgements.{natural-mono, near-mono}
 
 pub length-tube_of : (s : Shape) (box : List Span) (signal : ℕ) → length (tube_of s box signal) ≡ last_tick s.grid + 1

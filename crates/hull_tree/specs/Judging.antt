@@ -1,9 +1,11 @@
 -- The judgement of a box of pairs.
 use Rattle.std.specs.Prelude.{◌≡◌, ℕ, zero, suc, ◌+◌, ◌-◌, ◌≤◌, Bool, true, false, cond, not, ◌&&◌, ◌||◌, List, ◌-ℤ◌, nat_lt, nat_le}
 use Rattle.std.specs.Int.{int_max, int_min}
+use Rattle.tube_spec.specs.Limits.{greatest_bound}
 use Rattle.tube_spec.specs.Span.{Span, natural, point, IsBounded}
 use Rattle.tube_spec.specs.Box.{cell_at}
-use Rattle.hull_tree.specs.Plane.{Plane, is_near}
+use Rattle.hull_tree.specs.Plane.{Plane}
+use Rattle.tube_names.specs.Nearness.{is_near}
 use Rattle.hull_tree.specs.declared.hulls.Bounds.{Bounds}
 use Rattle.hull_tree.specs.declared.tree.Judged.{Judged}
 use Rattle.hull_tree.specs.declared.tree.Judged.TheVariants.{Out, Within, Mixed}
@@ -21,10 +23,10 @@ bounds_over xs a (suc n) = both (bounds_over xs a n) (bounds_of (cell_at xs (a +
 
 -- no bound lies beyond 500,000,000
 pub record IsSmall (p : Bounds) : Type 0 where
-  pub least_lower : IsBounded 500000000 (point p.least_lower)
-  pub greatest_lower : IsBounded 500000000 (point p.greatest_lower)
-  pub least_upper : IsBounded 500000000 (point p.least_upper)
-  pub greatest_upper : IsBounded 500000000 (point p.greatest_upper)
+  pub least_lower : IsBounded greatest_bound (point p.least_lower)
+  pub greatest_lower : IsBounded greatest_bound (point p.greatest_lower)
+  pub least_upper : IsBounded greatest_bound (point p.least_upper)
+  pub greatest_upper : IsBounded greatest_bound (point p.greatest_upper)
 
 -- the ticks from first_a to last_a by those from first_b to last_b
 pub record TickBox : Type 0 where

@@ -1,6 +1,7 @@
 -- The levels of a tree over ticks: at each level the hulls of blocks of one side, which is twice that of the level below.
 use Rattle.std.specs.Prelude.{◌≡◌, ℕ, ◌+◌, ◌-◌, ◌*◌, ◌/◌, ◌^◌, ◌<◌, ◌≤◌, List, [], Vec, map, min, length, slice_index_or, vec_items}
 use Rattle.std.specs.declared.alloc.Global.{Global}
+use Rattle.tube_spec.specs.Limits.{most_ticks}
 use Rattle.tube_spec.specs.Span.{Span}
 use Rattle.tube_spec.specs.Box.{IsBox, AreBounded}
 use Rattle.hull_tree.specs.declared.hulls.Bounds.{Bounds}
@@ -31,7 +32,7 @@ pub record AreLevels (xs : List Span) (levels : List (List Bounds)) : Type 0 whe
 -- what holds of every tree over the intervals of ticks: the last level has one block
 pub record IsTree (xs : List Span) (rows : List (List Bounds)) (side : ℕ) : Type 0 where
   pub some : 1 ≤ length xs
-  pub short : length xs ≤ 100001
+  pub short : length xs ≤ most_ticks + 1
   pub proper : IsBox xs
   pub bounded : AreBounded xs
   pub levels : AreLevels xs rows

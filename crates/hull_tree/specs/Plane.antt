@@ -1,15 +1,16 @@
 -- Which pairs of ticks are possible.
-use Rattle.std.specs.Prelude.{◌≡◌, ℕ, ◌+◌, ◌*◌, ◌≤◌, Bool, ◌&&◌, List, map, length, nat_lt, nat_le, neg_ℤ}
+use Rattle.std.specs.Prelude.{◌≡◌, ℕ, ◌+◌, ◌≤◌, Bool, ◌&&◌, List, map, length, nat_lt, nat_le, neg_ℤ}
 use Rattle.std.specs.Int.{int_max}
 use Rattle.std.specs.List.{range_with_len}
+use Rattle.tube_spec.specs.Limits.{greatest_radius, most_ticks}
 use Rattle.tube_spec.specs.Span.{Span, sub_of, natural}
 use Rattle.tube_spec.specs.Grid.{last_tick}
 use Rattle.tube_spec.specs.Shape.{Shape}
 use Rattle.tube_spec.specs.Box.{cell_at}
 use Rattle.tube_spec.specs.Tick.{at_tick}
-use Rattle.hull_tree.specs.declared.revisit.Norm.{Norm}
-use Rattle.hull_tree.specs.declared.revisit.Norm.TheVariants.{Maximum, Disc}
-use Rattle.hull_tree.specs.declared.revisit.Query.{Query}
+use Rattle.tube_names.specs.declared.queries.Norm.{Norm}
+use Rattle.tube_names.specs.declared.queries.Query.{Query}
+use Rattle.tube_names.specs.Nearness.{is_near}
 
 -- What two signals may be at each tick, from tick 0 to the last, and a query: how near the two places of a pair are to be, how many
 -- ticks are to lie between at least, and how nearness is measured.
@@ -24,8 +25,8 @@ pub record Plane : Type 0 where
 pub record IsPlane (p : Plane) : Type 0 where
   pub ticks : length p.ys ≡ length p.xs
   pub some : 1 ≤ length p.xs
-  pub short : length p.xs ≤ 100001
-  pub radius : p.radius ≤ 2000000000
+  pub short : length p.xs ≤ most_ticks + 1
+  pub radius : p.radius ≤ greatest_radius
 
 -- what a box gives a signal at each tick, from tick 0 to the last
 abbrev pub tube_of : Shape → List Span → ℕ → List Span
@@ -34,11 +35,6 @@ tube_of s box signal = map (at_tick s box signal) (range_with_len 0 (last_tick s
 -- the plane of a query over a box
 abbrev pub plane_of : Shape → List Span → Query → Plane
 plane_of s box q = record { xs = tube_of s box q.x.0; ys = tube_of s box q.y.0; radius = natural q.radius; gap = q.gap; norm = q.norm }
-
--- the test of a distance in x and one in y against a radius
-abbrev pub is_near : Norm → ℕ → ℕ → ℕ → Bool
-is_near Maximum r dx dy = nat_le dx r && nat_le dy r
-is_near Disc r dx dy = nat_le (dx * dx + dy * dy) (r * r)
 
 -- the least and the greatest absolute value in a span
 abbrev pub least_abs : Span → ℕ

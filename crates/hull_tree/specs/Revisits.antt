@@ -2,8 +2,8 @@
 use Rattle.std.specs.Prelude.{ℕ, ◌+◌, ◌≤◌, ℤ, neg_ℤ, ◌-ℤ◌, IsTrue}
 use Rattle.std.specs.Int.{int_max}
 use Rattle.tube_spec.specs.Span.{natural}
-use Rattle.hull_tree.specs.Plane.{is_near}
-use Rattle.hull_tree.specs.declared.revisit.Query.{Query}
+use Rattle.tube_names.specs.Nearness.{is_near}
+use Rattle.tube_names.specs.declared.queries.Query.{Query}
 
 -- the absolute value
 abbrev pub magnitude : ℤ → ℕ

@@ -1,3 +1,5 @@
+//! Bounds over a range of ticks, and the least and the greatest distance of two ranges.
+
 ghost use Rattle.std.specs.Prelude.{◌≡◌, ◌≤◌, pos, ◌≤ℤ◌};
 ghost use Rattle.std.specs.Int.{int_max};
 ghost use Rattle.tube_spec.specs.Span.{natural};

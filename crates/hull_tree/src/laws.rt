@@ -1,3 +1,5 @@
+//! What possible and sure pairs say of trajectories.
+
 ghost use Rattle.std.specs.Prelude.{ℕ, ◌<◌, ◌≤◌, ◌≡◌, true, List, length};
 ghost use Rattle.tube_spec.specs.Span.{Span};
 ghost use Rattle.tube_spec.specs.Grid.{IsGrid, last_tick};
@@ -6,7 +8,7 @@ ghost use Rattle.tube_spec.specs.Box.{IsBelow};
 ghost use Rattle.tube_spec.specs.Assignment.{Assignment, value_at, IsHull};
 ghost use Rattle.hull_tree.specs.Plane.{plane_of, is_possible, is_sure};
 ghost use Rattle.hull_tree.specs.Revisits.{IsRevisit};
-ghost use Rattle.hull_tree.specs.declared.revisit.Query.{Query};
+ghost use Rattle.tube_names.specs.declared.queries.Query.{Query};
 
 /// Each revisit of a trajectory in a box is a possible pair of the box.
 pub fn possible_law()

@@ -20,9 +20,8 @@
 mod hulls;
 mod laws;
 mod ranges;
-mod revisit;
 mod tree;
 
 pub use laws::{possible_law, sure_law};
-pub use revisit::{Norm, Query};
 pub use tree::{HullTree, Judged};
+pub use tube_names::{Norm, Query, is_near};

@@ -1,4 +1,7 @@
+//! The bounds of one signal over ranges of ticks, in a tree.
+
 ghost use Rattle.std.specs.Prelude.{◌≡◌, ℕ, ◌+◌, ◌-◌, ◌*◌, ◌^◌, ◌<◌, ◌≤◌, IfOk, map, length, slice_index_or};
+ghost use Rattle.tube_spec.specs.Limits.{most_ticks};
 ghost use Rattle.tube_spec.specs.Box.{AreBounded, IsBox};
 ghost use Rattle.hull_tree.specs.Judging.{bounds_of, both, bounds_over, IsSmall};
 ghost use Rattle.hull_tree.specs.Levels.{IsLevel, AreLevels, IsHalved, levels_of};
@@ -34,7 +37,7 @@ impl RangeTree {
     /// The tree over the intervals of ticks, of which there is one at least.
     pub fn new(alloc: Global, ticks: Vec<Interval>) -> Result<RangeTree, AllocError>
         requires some { 1 ≤ length ticks.items }
-        requires short { length ticks.items ≤ 100001 }
+        requires short { length ticks.items ≤ most_ticks + 1 }
         requires proper { IsBox ticks.items }
         requires bounded { AreBounded ticks.items }
         ensures { IfOk result (λ tree. tree ≡ ticks.items) }
@@ -58,7 +61,7 @@ impl RangeTree {
     pub fn len(&self) -> usize
         ensures len { result ≡ length self.now }
         ensures some { 1 ≤ result }
-        ensures short { result ≤ 100001 }
+        ensures short { result ≤ most_ticks + 1 }
     {
         self.ticks.len()
     }
@@ -97,7 +100,7 @@ fn over(
     requires level { level < length levels.now }
     requires side { side ≡ 2 ^ level }
     requires low { side ≤ 200002 }
-    requires short { length ticks.now ≤ 100001 }
+    requires short { length ticks.now ≤ most_ticks + 1 }
     requires begins { block * side ≤ first }
     requires order { first ≤ last }
     requires ends { last < block * side + side }

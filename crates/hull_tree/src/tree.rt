@@ -1,4 +1,7 @@
+//! The plane of pairs of ticks of a query, and the judgement of its boxes.
+
 ghost use Rattle.std.specs.Prelude.{◌≡◌, ℕ, ◌+◌, ◌<◌, ◌≤◌, length, pos, ◌≤ℤ◌, IsSome, IfSome, IfOk};
+ghost use Rattle.tube_spec.specs.Limits.{greatest_radius, most_ticks};
 ghost use Rattle.tube_spec.specs.Grid.{last_tick};
 ghost use Rattle.tube_spec.specs.Tick.{at_tick};
 ghost use Rattle.tube_spec.specs.Box.{AreBounded, IsBox};
@@ -7,13 +10,13 @@ ghost use Rattle.hull_tree.specs.Judging.{TickBox, judged, Says};
 
 use crate::hulls::{greatest_gap, least_gap};
 use crate::ranges::RangeTree;
-use crate::revisit::{Norm, Query, is_near};
 use int_interval::Interval;
 use std::alloc::Global;
 use std::marker::Model;
 use std::sync::ledger::Ledger;
 use step_count::Steps;
 use tube_io::NoMemory;
+use tube_names::{Norm, Query, is_near};
 use tube_store::{SignalId, Store};
 
 /// What is known of all pairs of a box.
@@ -55,7 +58,7 @@ impl HullTree {
         requires x { q.now.x.0 < length store.now.shape.signals }
         requires y { q.now.y.0 < length store.now.shape.signals }
         requires radius { pos 0 ≤ℤ q.now.radius }
-        requires small { q.now.radius ≤ℤ pos 2000000000 }
+        requires small { q.now.radius ≤ℤ pos greatest_radius }
         ensures { IfOk result (λ tree. IfSome store.now.box (λ xs. tree ≡ plane_of store.now.shape xs q.now)) }
     {
         let x = range_tree(alloc, store, q.x)?;
@@ -128,7 +131,7 @@ fn range_tree(alloc: Global, store: &Store, signal: SignalId) -> Result<RangeTre
     requires signal { signal.0 < length store.now.shape.signals }
     ensures tube { IfOk result (λ tree. IfSome store.now.box (λ xs. tree ≡ tube_of store.now.shape xs signal.0)) }
     ensures len { IfOk result (λ tree. length tree ≡ last_tick store.now.shape.grid + 1) }
-    ensures short { last_tick store.now.shape.grid ≤ 100000 }
+    ensures short { last_tick store.now.shape.grid ≤ most_ticks }
 {
     store.grid().known();
     let mut ticks: Vec<Interval> = Vec::new(alloc);

@@ -4,6 +4,7 @@
 
 ghost use Rattle.std.specs.Prelude.{◌≡◌, ◌↔◌, ◌≤ℤ◌, ◌+ℤ◌, ◌*ℤ◌, ℤ, pos};
 ghost use Rattle.std.specs.Int.{int_min, int_max};
+ghost use Rattle.tube_spec.specs.Limits.{interval_bound};
 ghost use Rattle.tube_spec.specs.Span.{IsBounded, Holds, point, scale_of};
 ghost use Rattle.tube_spec.specs.Hull.{IsHullOf, join_option};
 ghost use Rattle.int_interval.specs.Image.{int_abs};
@@ -124,7 +125,7 @@ impl Interval {
     /// to `greatest`.
     fn on_both_sides(self, least: i64, greatest: i64) -> Option<Interval>
         requires from_zero { pos 0 ≤ℤ least }
-        requires bounded { IsBounded 4000000000000000000 (point greatest) }
+        requires bounded { IsBounded interval_bound (point greatest) }
         ensures { IsHullOf (λ p. Holds self p × Holds (record { lo = least; hi = greatest }) (int_abs p)) result }
     {
         join(
@@ -155,7 +156,7 @@ impl Interval {
 
     /// The members whose product with `factor` is at most `most`.
     fn times_at_most(self, factor: i64, most: i64) -> Option<Interval>
-        requires { IsBounded 4000000000000000000 (point most) }
+        requires { IsBounded interval_bound (point most) }
         ensures { IsSetOf (λ p. Holds self p × ((p *ℤ factor) ≤ℤ most)) result }
     {
         if 0 < factor {
@@ -172,8 +173,8 @@ impl Interval {
 
     /// The members whose product with `factor` is at least `least`.
     fn times_at_least(self, factor: i64, least: i64) -> Option<Interval>
-        requires factor { IsBounded 4000000000000000000 (point factor) }
-        requires least { IsBounded 4000000000000000000 (point least) }
+        requires factor { IsBounded interval_bound (point factor) }
+        requires least { IsBounded interval_bound (point least) }
         ensures { IsSetOf (λ p. Holds self p × (least ≤ℤ (p *ℤ factor))) result }
     {
         self.times_at_most(-factor, -least)

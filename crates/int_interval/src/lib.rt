@@ -8,6 +8,7 @@
 
 ghost use Rattle.std.specs.Prelude.{◌≡◌, ◌↔◌, ◌≤ℤ◌, ◌+ℤ◌, ◌-ℤ◌, ◌*ℤ◌, neg_ℤ, IsTrue, IsSome, IfSome, pos};
 ghost use Rattle.std.specs.Int.{int_min, int_max};
+ghost use Rattle.tube_spec.specs.Limits.{interval_bound};
 ghost use Rattle.tube_spec.specs.Span.{Span, IsProper, IsBounded, IsWithin, Holds, meet_of, join_of, add_of, sub_of, scale_of, width_of};
 ghost use Rattle.int_interval.specs.Image.{IsImage, IsImageOfTwo, IsMeeting, IsUnion, int_abs, neg_of, abs_of, min_of, max_of, mul_of, sqr_of};
 
@@ -28,13 +29,14 @@ pub struct Interval {
 }
 
 impl Model for Interval {
+    ghost use Rattle.tube_spec.specs.Limits.{interval_bound};
     ghost use Rattle.tube_spec.specs.Span.{Span, IsProper, IsBounded};
 
     ghost Value = { Span };
 
     ghost view = { λ a. record { lo = a.lo; hi = a.hi } };
 
-    ghost invariant = { λ a. IsProper (record { lo = a.lo; hi = a.hi }) × IsBounded 4000000000000000000 (record { lo = a.lo; hi = a.hi }) };
+    ghost invariant = { λ a. IsProper (record { lo = a.lo; hi = a.hi }) × IsBounded interval_bound (record { lo = a.lo; hi = a.hi }) };
 
     ghost inverse = { λ s. record { lo = s.lo; hi = s.hi } };
 }
@@ -44,7 +46,7 @@ impl Interval {
     /// of them is above [`BOUND`] in absolute value.
     pub fn new(lo: i64, hi: i64) -> Option<Interval>
         ensures value { IfSome result (λ r. r ≡ record { lo = lo; hi = hi }) }
-        ensures exists { IsSome result ↔ (IsProper (record { lo = lo; hi = hi }) × IsBounded 4000000000000000000 (record { lo = lo; hi = hi })) }
+        ensures exists { IsSome result ↔ (IsProper (record { lo = lo; hi = hi }) × IsBounded interval_bound (record { lo = lo; hi = hi })) }
     {
         if lo <= hi && -BOUND <= lo && hi <= BOUND {
             Some(Interval { lo, hi })
@@ -78,7 +80,7 @@ impl Interval {
     /// order, and at most [`BOUND`] in absolute value.
     pub fn known(self)
         ensures proper { IsProper self }
-        ensures bounded { IsBounded 4000000000000000000 self }
+        ensures bounded { IsBounded interval_bound self }
     {
         let _lo = self.lo;
     }
@@ -125,7 +127,7 @@ impl Interval {
 
     /// The sums of a member of each. They are to stay within [`BOUND`].
     pub fn add(self, other: Interval) -> Interval
-        requires { IsBounded 4000000000000000000 (add_of self other) }
+        requires { IsBounded interval_bound (add_of self other) }
         ensures value { result ≡ add_of self other }
         ensures image { IsImageOfTwo (λ p q. p +ℤ q) self other result }
     {
@@ -137,7 +139,7 @@ impl Interval {
 
     /// The differences of a member of each. They are to stay within [`BOUND`].
     pub fn sub(self, other: Interval) -> Interval
-        requires { IsBounded 4000000000000000000 (sub_of self other) }
+        requires { IsBounded interval_bound (sub_of self other) }
         ensures value { result ≡ sub_of self other }
         ensures image { IsImageOfTwo (λ p q. p -ℤ q) self other result }
     {
@@ -149,7 +151,7 @@ impl Interval {
 
     /// The hull of the products of `factor` with a member. It is to stay within [`BOUND`].
     pub fn scale(self, factor: i64) -> Interval
-        requires { IsBounded 4000000000000000000 (scale_of factor self) }
+        requires { IsBounded interval_bound (scale_of factor self) }
         ensures value { result ≡ scale_of factor self }
         ensures image { IsImage (λ p. factor *ℤ p) self result }
     {
@@ -209,7 +211,7 @@ impl Interval {
     /// The hull of the products of a member of each. There is none where it leaves [`BOUND`].
     pub fn mul(self, other: Interval) -> Option<Interval>
         ensures value { IfSome result (λ r. r ≡ mul_of self other) }
-        ensures exists { IsSome result ↔ IsBounded 4000000000000000000 (mul_of self other) }
+        ensures exists { IsSome result ↔ IsBounded interval_bound (mul_of self other) }
         ensures image { IfSome result (IsImageOfTwo (λ p q. p *ℤ q) self other) }
     {
         let least = other.try_scale(self.lo)?;
@@ -220,7 +222,7 @@ impl Interval {
     /// The hull of the squares of the members. There is none where it leaves [`BOUND`].
     pub fn sqr(self) -> Option<Interval>
         ensures value { IfSome result (λ r. r ≡ sqr_of self) }
-        ensures exists { IsSome result ↔ IsBounded 4000000000000000000 (sqr_of self) }
+        ensures exists { IsSome result ↔ IsBounded interval_bound (sqr_of self) }
         ensures image { IfSome result (IsImage (λ p. p *ℤ p) self) }
     {
         let size = self.abs();
@@ -233,7 +235,7 @@ impl Interval {
     /// [`BOUND`].
     fn try_scale(self, factor: i64) -> Option<Interval>
         ensures value { IfSome result (λ r. r ≡ scale_of factor self) }
-        ensures exists { IsSome result ↔ IsBounded 4000000000000000000 (scale_of factor self) }
+        ensures exists { IsSome result ↔ IsBounded interval_bound (scale_of factor self) }
         ensures image { IfSome result (IsImage (λ p. factor *ℤ p) self) }
     {
         let low = factor.checked_mul(self.lo)?;
@@ -243,7 +245,7 @@ impl Interval {
 
     /// The hull of two numbers, which are at most [`BOUND`] in absolute value.
     fn between(a: i64, b: i64) -> Interval
-        requires { IsBounded 4000000000000000000 (record { lo = int_min a b; hi = int_max a b }) }
+        requires { IsBounded interval_bound (record { lo = int_min a b; hi = int_max a b }) }
         ensures { result ≡ record { lo = int_min a b; hi = int_max a b } }
     {
         if a <= b {

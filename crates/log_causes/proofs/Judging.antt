@@ -14,8 +14,8 @@ use Rattle.log_spelling.specs.declared.reference.Part.{Part}
 use Rattle.log_spelling.specs.declared.reference.Part.TheVariants as part
 use Rattle.expr_tree.specs.Trees.{Relation}
 use Rattle.expr_tree.specs.Measures.{relation_names}
-use Rattle.expr_hc4.specs.declared.places.Leaf.{Leaf}
-use Rattle.expr_hc4.specs.declared.places.Leaf.TheVariants.{Var}
+use Rattle.tube_names.specs.declared.leaves.Leaf.{Leaf}
+use Rattle.tube_names.specs.declared.leaves.Leaf.TheVariants.{Var}
 use Rattle.formula_text.specs.Readings.{Deep, Text, TextCause, reading_of}
 use Rattle.log_fields.specs.Fields.{field}
 use Rattle.log_fields.specs.Kinds.{at_fields, beacon_fields, bound_fields, constell_fields, cut_fields, declared_fields, delay_fields, deriv_fields, eval_fields, mission_fields, ping_fields, range3_fields, range_fields, revisit_fields, settle_fields, text_fields}

@@ -6,8 +6,8 @@ use Rattle.log_spelling.specs.declared.kind.Kind.{Kind}
 use Rattle.log_spelling.specs.declared.kind.Kind.TheVariants as kind
 use Rattle.expr_tree.specs.Trees.{Relation}
 use Rattle.expr_tree.specs.Measures.{relation_names}
-use Rattle.expr_hc4.specs.declared.places.Leaf.{Leaf}
-use Rattle.expr_hc4.specs.declared.places.Leaf.TheVariants.{Var}
+use Rattle.tube_names.specs.declared.leaves.Leaf.{Leaf}
+use Rattle.tube_names.specs.declared.leaves.Leaf.TheVariants.{Var}
 use Rattle.formula_text.specs.Readings.{TextCause, reading_of}
 use Rattle.log_fields.specs.Fields.{field, version_of}
 use Rattle.log_fields.specs.Sentences.{value}

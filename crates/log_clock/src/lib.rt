@@ -10,9 +10,8 @@ ghost use Rattle.tube_spec.specs.Grid.{IsGrid, last_tick};
 ghost use Rattle.mission_items.specs.Cuts.{with_tick};
 ghost use Rattle.mission_items.specs.Room.{slices_in, touching};
 
-use ctc_eval::near_in;
 use int_interval::Interval;
-use slice_gates::Grid;
+use slice_gates::{Grid, near_in};
 use std::alloc::Global;
 use std::marker::Model;
 use tube_io::NoMemory;

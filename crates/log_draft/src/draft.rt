@@ -21,7 +21,7 @@ use log_clock::Clock;
 use log_fields::fields::{ensure, tick_of};
 use log_fields::{Cause, Stop};
 use log_spelling::Part;
-use mission_items::{Decl, Item, Items, Mission};
+use mission_items::{Decl, Item, Items, Mission, ticks_from};
 use name_table::NameTable;
 use std::alloc::Global;
 use std::marker::Model;
@@ -467,16 +467,6 @@ fn is_narrow(end: u32, range: Interval) -> bool
         return true;
     }
     last - first <= 2_000
-}
-
-fn ticks_from(first: u32, last: u32) -> Interval
-    requires { first ≤ last }
-    ensures { result ≡ ticks_from first last }
-{
-    match Interval::new(i64::from(first), i64::from(last)) {
-        Some(ticks) => ticks,
-        None => unreachable!(),
-    }
 }
 
 fn may_precede_cut(item: &Item) -> bool

@@ -10,7 +10,7 @@ use Rattle.log_spelling.specs.declared.reference.Part.{Part}
 use Rattle.expr_tree.specs.Trees.{Relation}
 use Rattle.expr_values.specs.Expressions.{leaves, numbered}
 use Rattle.expr_values.specs.Values.{range_value}
-use Rattle.expr_hc4.specs.declared.places.Leaf.{Leaf}
+use Rattle.tube_names.specs.declared.leaves.Leaf.{Leaf}
 use Rattle.log_fields.specs.Steps.{found_or, unless}
 use Rattle.log_fields.specs.declared.fault.Cause.TheVariants as cause
 use Rattle.mission_items.specs.Names.{declaration_of, leaf_at, leaf_of, leaf_range, variable_of}

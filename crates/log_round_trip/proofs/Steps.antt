@@ -7,12 +7,12 @@ use Rattle.std.proofs.lemmas.List.Elements.{All-head, All-tail}
 use Rattle.tube_spec.specs.Span.{Span}
 use Rattle.tube_store.specs.declared.SignalId.{SignalId}
 use Rattle.tube_store.specs.declared.VarId.{VarId}
-use Rattle.hull_tree.specs.declared.revisit.Query.{Query}
+use Rattle.tube_names.specs.declared.queries.Query.{Query}
 use Rattle.expr_tree.specs.Trees.{Relation}
 use Rattle.expr_tree.specs.Measures.{relation_names}
 use Rattle.expr_text.specs.Canonical.{relation_text}
 use Rattle.expr_text.specs.Spellable.{IsPrintable}
-use Rattle.expr_hc4.specs.declared.places.Leaf.{Leaf}
+use Rattle.tube_names.specs.declared.leaves.Leaf.{Leaf}
 use Rattle.formula_text.specs.Laws.{IsFieldText}
 use Rattle.formula_text.specs.Readings.{reading_of}
 use Rattle.mission_items.specs.Made.{beacons_in}

@@ -1,6 +1,6 @@
-//! The kinds of records.
+//! The kinds of records, and the word that each begins with.
 
-ghost use Rattle.std.specs.Prelude.{◌≡◌};
+ghost use Rattle.std.specs.Prelude.{◌≡◌, bytes_eq};
 ghost use Rattle.log_spelling.specs.Kinds.{kind_of, word_of};
 
 /// The kinds of records that a mission log may have, besides notes.
@@ -45,66 +45,41 @@ pub enum Kind {
 }
 
 impl Kind {
+    /// Every kind, once.
+    pub const ALL: [Kind; 18] = [
+        Kind::Mission,
+        Kind::Signal,
+        Kind::Variable,
+        Kind::Deriv,
+        Kind::Bound,
+        Kind::At,
+        Kind::Eval,
+        Kind::Delay,
+        Kind::Beacon,
+        Kind::Range,
+        Kind::Range3,
+        Kind::Constell,
+        Kind::Ping,
+        Kind::Expr,
+        Kind::Exprv,
+        Kind::Revisit,
+        Kind::Settle,
+        Kind::Cut,
+    ];
+
     /// The kind that a word stands for. Case counts.
     #[tactic(auto, unfolding(crate::specs::Kinds::kind_of))]
     pub fn of(word: &[u8]) -> Option<Kind>
         ensures { result ≡ kind_of word.now }
     {
-        if word == b"mission".as_slice() {
-            return Some(Kind::Mission);
-        }
-        if word == b"signal".as_slice() {
-            return Some(Kind::Signal);
-        }
-        if word == b"var".as_slice() {
-            return Some(Kind::Variable);
-        }
-        if word == b"deriv".as_slice() {
-            return Some(Kind::Deriv);
-        }
-        if word == b"bound".as_slice() {
-            return Some(Kind::Bound);
-        }
-        if word == b"at".as_slice() {
-            return Some(Kind::At);
-        }
-        if word == b"eval".as_slice() {
-            return Some(Kind::Eval);
-        }
-        if word == b"delay".as_slice() {
-            return Some(Kind::Delay);
-        }
-        if word == b"beacon".as_slice() {
-            return Some(Kind::Beacon);
-        }
-        if word == b"range".as_slice() {
-            return Some(Kind::Range);
-        }
-        if word == b"range3".as_slice() {
-            return Some(Kind::Range3);
-        }
-        if word == b"constell".as_slice() {
-            return Some(Kind::Constell);
-        }
-        if word == b"ping".as_slice() {
-            return Some(Kind::Ping);
-        }
-        if word == b"expr".as_slice() {
-            return Some(Kind::Expr);
-        }
-        if word == b"exprv".as_slice() {
-            return Some(Kind::Exprv);
-        }
-        if word == b"revisit".as_slice() {
-            return Some(Kind::Revisit);
-        }
-        if word == b"settle".as_slice() {
-            return Some(Kind::Settle);
-        }
-        if word == b"cut".as_slice() {
-            return Some(Kind::Cut);
-        }
-        None
+        Kind::ALL.iter().copied().find(|kind| kind.is_spelled(word))
+    }
+
+    // Whether a word stands for the kind.
+    fn is_spelled(&self, word: &[u8]) -> bool
+        ensures { result ≡ bytes_eq word.now (word_of self.now) }
+    {
+        word == self.word()
     }
 
     /// The word that stands for the kind.

@@ -1,4 +1,4 @@
-//! Names.
+//! Names: a letter, then letters, digits and underscores.
 
 ghost use Rattle.std.specs.Prelude.{◌≡◌};
 ghost use Rattle.std.specs.List.{list_all};
@@ -6,13 +6,15 @@ ghost use Rattle.log_spelling.specs.Names.{is_letter, is_name, is_name_byte, is_
 
 use crate::number::is_digit;
 
-fn is_letter(c: u8) -> bool
+/// Whether a byte is one of the letters that names begin with, `A` to `Z` and `a` to `z`.
+pub fn is_letter(c: u8) -> bool
     ensures { result ≡ is_letter c }
 {
     b'A' <= c && c <= b'Z' || b'a' <= c && c <= b'z'
 }
 
-fn is_name_byte(c: u8) -> bool
+/// Whether a byte may stand in a name: a letter, a digit or `_`.
+pub fn is_name_byte(c: u8) -> bool
     ensures { result ≡ is_name_byte c }
 {
     is_letter(c) || is_digit(c) || c == b'_'

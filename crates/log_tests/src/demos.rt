@@ -1,3 +1,5 @@
+//! Demo missions, and what is read of their logs.
+
 use demo_mission::{Demo, make_demo, make_mission};
 use std::process::Abort;
 use std::test::Fail;

@@ -13,7 +13,7 @@ use std::alloc::Global;
 use std::process::Abort;
 use std::test::Fail;
 
-/// The first record of a text.
+// The first record of a text.
 fn row_of(alloc: Global, text: &[u8]) -> Result<ByteRecord, Fail> {
     let mut rows = Rows::new(alloc, text);
     let mut row = ByteRecord::new(alloc);
@@ -37,13 +37,13 @@ macro_rules! cause_in {
     };
 }
 
-/// No record was read.
+// No record was read.
 fn refused() -> Result<(), Fail> {
     let none: Option<()> = None;
     Ok(none.ok_or("the record is refused")?)
 }
 
-/// The cause that a record of a kind has by itself.
+// The cause that a record of a kind has by itself.
 fn cause_of(kind: Kind, row: &ByteRecord) -> Option<Cause> {
     match kind {
         Kind::Mission => cause_in!(mission_fields(row)),

@@ -1,8 +1,10 @@
-use expr_hc4::Leaf;
+//! Records, and what they make.
+
 use int_interval::Interval;
 use mission_items::{Item, Items, Leaves};
 use std::test::Fail;
 use tube_io::Text;
+use tube_names::Leaf;
 use tube_store::{SignalId, VarId};
 
 fn ping(beacon: Option<u32>) -> Item {

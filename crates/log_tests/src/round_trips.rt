@@ -21,7 +21,7 @@ fn read(alloc: Global, log: &[u8]) -> Result<Mission, Fail> {
     }
 }
 
-/// The log is printed so, and the text is read as a mission that is printed so again.
+// The log is printed so, and the text is read as a mission that is printed so again.
 fn check(rt: &impl Abort, alloc: Global, log: &[u8], want: &[u8]) -> Result<(), Fail> {
     let mission = read(alloc, log)?;
     let text = print_log(alloc, &mission)?;

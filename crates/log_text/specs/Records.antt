@@ -4,7 +4,7 @@ use Rattle.std.specs.Fmt.{signed_decimal}
 use Rattle.tube_spec.specs.Span.{Span}
 use Rattle.tube_store.specs.declared.SignalId.{SignalId}
 use Rattle.tube_store.specs.declared.VarId.{VarId}
-use Rattle.hull_tree.specs.declared.revisit.Query.{Query}
+use Rattle.tube_names.specs.declared.queries.Query.{Query}
 use Rattle.expr_text.specs.Canonical.{relation_text}
 use Rattle.csv_rows.specs.Records.{Record}
 use Rattle.mission_items.specs.declared.item.Item.{Item}

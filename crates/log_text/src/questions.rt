@@ -11,10 +11,10 @@ use crate::field::Field;
 use crate::line::append_line;
 use crate::names::Names;
 use formula_text::{Formula, print_formula};
-use hull_tree::Query;
 use log_spelling::Kind;
 use std::alloc::Global;
 use tube_io::NoMemory;
+use tube_names::Query;
 
 /// `expr,"text"` or `exprv,"text"`
 pub(crate) fn append_formula(

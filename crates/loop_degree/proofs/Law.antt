@@ -13,7 +13,7 @@ use Rattle.tube_spec.specs.Grid.{IsGrid, last_tick}
 use Rattle.tube_spec.specs.Shape.{Shape}
 use Rattle.tube_spec.specs.Box.{IsBelow}
 use Rattle.tube_spec.specs.Assignment.{Assignment, IsHull}
-use Rattle.hull_tree.specs.declared.revisit.Query.{Query}
+use Rattle.tube_names.specs.declared.queries.Query.{Query}
 use Rattle.hull_tree.specs.Revisits.{magnitude}
 use Rattle.hull_tree.proofs.Judgements.{near-mono}
 use Rattle.loop_degree.specs.declared.labels.Label.{Label}

@@ -6,8 +6,8 @@ use Rattle.tube_spec.specs.Shape.{Shape}
 use Rattle.tube_spec.specs.Box.{IsBelow}
 use Rattle.tube_spec.specs.Tick.{at_tick}
 use Rattle.tube_spec.specs.Assignment.{Assignment, value_at, IsHull}
-use Rattle.hull_tree.specs.declared.revisit.Query.{Query}
-use Rattle.hull_tree.specs.Plane.{is_near}
+use Rattle.tube_names.specs.declared.queries.Query.{Query}
+use Rattle.tube_names.specs.Nearness.{is_near}
 use Rattle.hull_tree.specs.Revisits.{IsRevisit}
 use Rattle.loop_degree.specs.declared.labels.Label.{Label}
 use Rattle.loop_degree.specs.Pairs.{IsRising, has}

@@ -1,6 +1,9 @@
+//! The cells of a set, and the sides of their boundary.
+
 ghost use Rattle.std.specs.Prelude.{◌≡◌, ◌<◌, ◌↔◌, ◌++◌, ℕ, All, IfOk, IsTrue};
 ghost use Rattle.loop_degree.specs.Pairs.{IsRising, has};
 ghost use Rattle.loop_degree.specs.Cells.{next_a, next_b, next_both, has_before_a, has_before_b, side_unless, outer_sides, boundary, ends_of};
+ghost use Rattle.tube_spec.specs.Limits.{most_ticks};
 
 use std::alloc::{AllocError, Global};
 
@@ -59,7 +62,7 @@ fn has_before_b(cells: &[(u32, u32)], cell: (u32, u32)) -> bool
 /// The sides of a cell.
 pub fn sides_of(cells: &[(u32, u32)], cell: (u32, u32)) -> Sides
     requires rising { IsRising cells.now }
-    requires small { (cell.0 < 100000) × (cell.1 < 100000) }
+    requires small { (cell.0 < most_ticks) × (cell.1 < most_ticks) }
     ensures { result ≡ record {
       lower = record { shared = has_before_b cells.now cell.0 cell.1; from = cell; to = next_a cell };
       right = record { shared = has cells.now (next_a cell); from = next_a cell; to = next_both cell };
@@ -97,7 +100,7 @@ fn push_all_ends(
     cell: (u32, u32),
 ) -> Result<(), AllocError>
     requires rising { IsRising cells.now }
-    requires small { (cell.0 < 100000) × (cell.1 < 100000) }
+    requires small { (cell.0 < most_ticks) × (cell.1 < most_ticks) }
     ensures { IfOk result (λ _. ends.new.items ≡ ends.old.items ++ ends_of (outer_sides cells.now cell)) }
 {
     let sides = sides_of(cells, cell);
@@ -112,7 +115,7 @@ fn push_all_ends(
 /// The cells are to rise strictly, and their numbers to be below 100,000.
 pub fn boundary_corners(alloc: Global, cells: &[(u32, u32)]) -> Result<Vec<(u32, u32)>, AllocError>
     requires rising { IsRising cells.now }
-    requires small { All (λ c. (c.0 < 100000) × (c.1 < 100000)) cells.now }
+    requires small { All (λ c. (c.0 < most_ticks) × (c.1 < most_ticks)) cells.now }
     ensures rising { IfOk result (λ v. IsRising v.items) }
     ensures corners { IfOk result (λ v. (p : ℕ × ℕ) → has v.items p ≡ has (ends_of (boundary cells.now)) p) }
 {

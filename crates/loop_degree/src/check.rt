@@ -1,8 +1,11 @@
+//! The degree of the boundary of some cells.
+
 ghost use Rattle.std.specs.Prelude.{◌≡◌, ◌<◌, ◌↔◌, All, IsSome, IfSome, map};
 ghost use Rattle.loop_degree.specs.Pairs.{IsRising};
 ghost use Rattle.loop_degree.specs.Cells.{side_unless, outer_sides};
 ghost use Rattle.loop_degree.specs.Labels.{label_at, degree_of};
 ghost use Rattle.loop_degree.specs.Boundary.{corner_of, IsLabelledBoundary, turns_of, add_option, IsSmall};
+ghost use Rattle.tube_spec.specs.Limits.{most_ticks};
 
 use super::cells::{Side, is_rising, sides_of};
 use super::labels::{Label, corners_rise, label_at, turn};
@@ -34,7 +37,7 @@ fn add_turns(x: Option<i64>, y: Option<i64>) -> Option<i64>
 fn cell_turns(cells: &[(u32, u32)], labels: &[(u32, u32, Label)], cell: (u32, u32)) -> Option<i64>
     requires rising { IsRising cells.now }
     requires corners { IsRising (map corner_of labels.now) }
-    requires small { (cell.0 < 100000) × (cell.1 < 100000) }
+    requires small { (cell.0 < most_ticks) × (cell.1 < most_ticks) }
     ensures value { result ≡ turns_of labels.now (outer_sides cells.now cell) }
     ensures small { IfSome result (IsSmall 4) }
 {
@@ -55,7 +58,7 @@ fn cell_turns(cells: &[(u32, u32)], labels: &[(u32, u32, Label)], cell: (u32, u3
 /// no label, and in no other case. Both numbers of a cell are to be below 100,000. It takes no memory; a cell and a label are found by
 /// binary searches.
 pub fn check_cells(cells: &[(u32, u32)], labels: &[(u32, u32, Label)]) -> Option<i64>
-    requires { All (λ c. (c.0 < 100000) × (c.1 < 100000)) cells.now }
+    requires { All (λ c. (c.0 < most_ticks) × (c.1 < most_ticks)) cells.now }
     ensures labelled { IsSome result ↔ IsLabelledBoundary cells.now labels.now }
     ensures degree { IfSome result (λ d. d ≡ degree_of cells.now (label_at labels.now)) }
 {

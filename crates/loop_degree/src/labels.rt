@@ -1,3 +1,5 @@
+//! The labels of corners.
+
 ghost use Rattle.std.specs.Prelude.{◌≡◌, ◌↔◌, IsTrue, map};
 ghost use Rattle.loop_degree.specs.Pairs.{IsRising};
 ghost use Rattle.loop_degree.specs.Labels.{label_at};

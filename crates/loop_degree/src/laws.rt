@@ -1,3 +1,5 @@
+//! A degree that is not 0 proves a revisit.
+
 ghost use Rattle.loop_degree.specs.Degree.{DegreeLaw};
 
 /// Does nothing. Its contract is the law of the degree: in a box that is not empty, for every query, all lists of rates and every strictly

@@ -6,7 +6,7 @@ use Rattle.std.proofs.lemmas.List.Elements.{recursion_from_All, All-from_recursi
 use Rattle.std.proofs.lemmas.Int.{ints}
 use Rattle.std.proofs.lemmas.Bool.{or_left, or_right}
 use Rattle.tube_spec.specs.Span.{Span}
-use Rattle.hull_tree.specs.declared.revisit.Query.{Query}
+use Rattle.tube_names.specs.declared.queries.Query.{Query}
 use Rattle.loop_degree.specs.declared.labels.Label.{Label}
 use Rattle.loop_degree.specs.declared.labels.Label.TheVariants.{East, West, North, South}
 use Rattle.loop_degree.specs.Pairs.{IsRising, has, is_same}

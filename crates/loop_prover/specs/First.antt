@@ -1,7 +1,7 @@
 -- The labels of corners in a box: the first one that holds.
 use Rattle.std.specs.Prelude.{◌≡◌, ℕ, true, cond, Option, Some, None, List, map, All, ℤ, neg_ℤ, int_le}
 use Rattle.tube_spec.specs.Span.{Span}
-use Rattle.hull_tree.specs.declared.revisit.Query.{Query}
+use Rattle.tube_names.specs.declared.queries.Query.{Query}
 use Rattle.loop_degree.specs.declared.labels.Label.{Label}
 use Rattle.loop_degree.specs.declared.labels.Label.TheVariants.{East, West, North, South}
 use Rattle.loop_degree.specs.Pairs.{IsRising, has}

@@ -1,4 +1,7 @@
+//! The bound of a step of a signal.
+
 ghost use Rattle.std.specs.Prelude.{◌≡◌, ◌<◌, ◌≤ℤ◌, pos, All, IsSome, IfSome, length, map};
+ghost use Rattle.tube_spec.specs.Limits.{greatest_radius};
 ghost use Rattle.tube_spec.specs.Span.{IsBounded};
 ghost use Rattle.tube_spec.specs.Grid.{last_tick};
 ghost use Rattle.tube_spec.specs.Tick.{at_tick};
@@ -69,7 +72,7 @@ pub fn step_bound(cells: &[(u32, u32)], store: &Store, x: SignalId, rates: &[Sig
     requires corners { All (λ c. (c.0 < last_tick store.now.shape.grid) × (c.1 < last_tick store.now.shape.grid)) cells.now }
     ensures value { IfSome store.now.box (λ xs. result ≡ step_bound_of (at_tick store.now.shape xs) x.0 (map (λ r. r.0) rates.now) cells.now) }
     ensures least { pos 1 ≤ℤ result }
-    ensures most { result ≤ℤ pos 2000000000 }
+    ensures most { result ≤ℤ pos greatest_radius }
 {
     let mut top = 1i64;
     for cell in cells {

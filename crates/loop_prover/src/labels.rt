@@ -1,4 +1,7 @@
+//! The labels of corners in a store.
+
 ghost use Rattle.std.specs.Prelude.{◌≡◌, ◌<◌, ◌≤◌, ◌≤ℤ◌, pos, All, IsSome, IfSome, IfOk, MatchOption, length};
+ghost use Rattle.tube_spec.specs.Limits.{greatest_radius};
 ghost use Rattle.tube_spec.specs.Span.{IsBounded, sub_of};
 ghost use Rattle.tube_spec.specs.Grid.{last_tick};
 ghost use Rattle.tube_spec.specs.Tick.{at_tick};
@@ -29,9 +32,9 @@ fn change(store: &Store, x: SignalId, a: u32, b: u32) -> Interval
 /// The first label that holds of two changes under bounds.
 fn first_label(dx: Interval, dy: Interval, d1: i64, d2: i64) -> Option<Label>
     requires d1_least { pos 1 ≤ℤ d1 }
-    requires d1_most { d1 ≤ℤ pos 2000000000 }
+    requires d1_most { d1 ≤ℤ pos greatest_radius }
     requires d2_least { pos 1 ≤ℤ d2 }
-    requires d2_most { d2 ≤ℤ pos 2000000000 }
+    requires d2_most { d2 ≤ℤ pos greatest_radius }
     ensures { result ≡ first_label d1 d2 dx dy }
 {
     if d1 <= dx.lo() {
@@ -58,9 +61,9 @@ pub fn label(store: &Store, q: &Query, a: u32, b: u32, d1: i64, d2: i64) -> Opti
     requires a { a ≤ last_tick store.now.shape.grid }
     requires b { b ≤ last_tick store.now.shape.grid }
     requires d1_least { pos 1 ≤ℤ d1 }
-    requires d1_most { d1 ≤ℤ pos 2000000000 }
+    requires d1_most { d1 ≤ℤ pos greatest_radius }
     requires d2_least { pos 1 ≤ℤ d2 }
-    requires d2_most { d2 ≤ℤ pos 2000000000 }
+    requires d2_most { d2 ≤ℤ pos greatest_radius }
     ensures { IfSome store.now.box (λ xs. result ≡ label_of (at_tick store.now.shape xs) q.now d1 d2 (a, b)) }
 {
     let dx = change(store, q.x, a, b);
@@ -85,9 +88,9 @@ pub fn labels_of(
     requires x { q.now.x.0 < length store.now.shape.signals }
     requires y { q.now.y.0 < length store.now.shape.signals }
     requires d1_least { pos 1 ≤ℤ d1 }
-    requires d1_most { d1 ≤ℤ pos 2000000000 }
+    requires d1_most { d1 ≤ℤ pos greatest_radius }
     requires d2_least { pos 1 ≤ℤ d2 }
-    requires d2_most { d2 ≤ℤ pos 2000000000 }
+    requires d2_most { d2 ≤ℤ pos greatest_radius }
     ensures { IfOk result (λ found. IfSome store.now.box (λ xs. let label = label_of (at_tick store.now.shape xs) q.now d1 d2 in
         MatchOption found (LacksLabel label cells.now) (λ labels. AreLabels label cells.now labels.items))) }
 {

@@ -1,5 +1,7 @@
+//! What the labels are good for.
+
 ghost use Rattle.std.specs.Prelude.{ℕ, ℤ, List, All};
-ghost use Rattle.hull_tree.specs.declared.revisit.Query.{Query};
+ghost use Rattle.tube_names.specs.declared.queries.Query.{Query};
 ghost use Rattle.loop_degree.specs.declared.labels.Label.{Label};
 ghost use Rattle.loop_degree.specs.Pairs.{IsRising};
 ghost use Rattle.loop_degree.specs.Cells.{boundary};

@@ -10,8 +10,9 @@ use Rattle.hull_tree.proofs.Gaps.{small_fits}
 use Rattle.std.specs.Bool.{OnFalse}
 use Rattle.std.specs.Option.{MatchOption, is_some}
 use Rattle.tube_spec.specs.Span.{Span, natural, point}
-use Rattle.hull_tree.specs.declared.revisit.Query.{Query}
-use Rattle.hull_tree.specs.Plane.{Plane, is_near, is_valid, is_sure, greatest_abs, change}
+use Rattle.tube_names.specs.declared.queries.Query.{Query}
+use Rattle.hull_tree.specs.Plane.{Plane, is_valid, is_sure, greatest_abs, change}
+use Rattle.tube_names.specs.Nearness.{is_near}
 use Rattle.hull_tree.proofs.Judgements.{near-mono, natural-mono, right-false}
 use Rattle.tplane_paver.specs.declared.runs.Run.{Run}
 use Rattle.tplane_paver.specs.Runs.{InRun, InRuns, run_at, AreInOrder}

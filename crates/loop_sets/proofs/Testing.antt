@@ -13,8 +13,8 @@ use Rattle.tube_spec.specs.Span.{Span, natural}
 use Rattle.tube_spec.specs.Grid.{last_tick}
 use Rattle.tube_spec.specs.Shape.{Shape}
 use Rattle.tube_spec.specs.Tick.{at_tick}
-use Rattle.hull_tree.specs.Plane.{is_near}
-use Rattle.hull_tree.specs.declared.revisit.Query.{Query}
+use Rattle.tube_names.specs.Nearness.{is_near}
+use Rattle.tube_names.specs.declared.queries.Query.{Query}
 use Rattle.tplane_paver.specs.declared.runs.Run.{Run}
 use Rattle.tplane_paver.specs.Runs.{InRuns, AreInOrder}
 use Rattle.loop_degree.specs.declared.labels.Label.{Label}

@@ -7,7 +7,7 @@ use Rattle.tube_spec.specs.Box.{IsBelow}
 use Rattle.tube_spec.specs.Tick.{at_tick}
 use Rattle.tube_spec.specs.Assignment.{Assignment, value_at, IsHull}
 use Rattle.hull_tree.specs.Plane.{Plane, plane_of, is_possible}
-use Rattle.hull_tree.specs.declared.revisit.Query.{Query}
+use Rattle.tube_names.specs.declared.queries.Query.{Query}
 use Rattle.tplane_paver.specs.declared.runs.Run.{Run}
 use Rattle.tplane_paver.specs.Runs.{AreMaximalRuns}
 use Rattle.tplane_paver.specs.Components.{set_at, AreComponents}

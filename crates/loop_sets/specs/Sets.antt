@@ -1,10 +1,11 @@
 -- Sets of possible pairs, and the sure pairs in them.
-use Rattle.std.specs.Prelude.{◌≡◌, ℕ, ◌<◌, ◌≤◌, true, false, List, length, IsTrue, ℤ, pos, ◌≤ℤ◌}
+use Rattle.std.specs.Prelude.{◌≡◌, ℕ, ◌+◌, ◌<◌, ◌≤◌, true, false, List, length, IsTrue, ℤ, pos, ◌≤ℤ◌}
+use Rattle.tube_spec.specs.Limits.{greatest_radius, most_ticks}
 use Rattle.tube_spec.specs.Span.{Span, natural}
 use Rattle.tube_spec.specs.Box.{AreBounded}
 use Rattle.hull_tree.specs.Plane.{Plane, is_valid, is_possible, is_sure}
 use Rattle.hull_tree.specs.Revisits.{IsRevisit}
-use Rattle.hull_tree.specs.declared.revisit.Query.{Query}
+use Rattle.tube_names.specs.declared.queries.Query.{Query}
 use Rattle.tplane_paver.specs.declared.runs.Run.{Run}
 use Rattle.tplane_paver.specs.Runs.{InRuns}
 use Rattle.tplane_paver.specs.Components.{IsBeside, Reaches}
@@ -41,11 +42,11 @@ plane_over xs ys q = record { xs = xs; ys = ys; radius = natural q.radius; gap =
 -- both signals have a bounded interval at each tick, and the radius is within bounds
 pub record IsTracked (xs ys : List Span) (q : Query) : Type 0 where
   pub ticks : length ys ≡ length xs
-  pub short : length xs ≤ 100001
+  pub short : length xs ≤ most_ticks + 1
   pub x : AreBounded xs
   pub y : AreBounded ys
   pub radius : pos 0 ≤ℤ q.radius
-  pub small : q.radius ≤ℤ pos 2000000000
+  pub small : q.radius ≤ℤ pos greatest_radius
 
 -- the pairs of a tick with a range of ticks are valid; none of them is sure; or this is the first tick that makes a sure one
 abbrev pub AreValid : Plane → ℕ → ℕ → ℕ → Type 0

@@ -1,11 +1,12 @@
 -- The labels of corners in a store.
 use Rattle.std.specs.Prelude.{ℕ, ◌<◌, cond, Option, Some, None, IsSome, List, length, ℤ, pos, ◌-ℤ◌, ◌≤ℤ◌}
 use Rattle.std.specs.Ordering.{int_eq}
+use Rattle.tube_spec.specs.Limits.{greatest_radius}
 use Rattle.tube_spec.specs.Span.{Span, natural}
-use Rattle.hull_tree.specs.Plane.{is_near}
+use Rattle.tube_names.specs.Nearness.{is_near}
 use Rattle.tube_spec.specs.Shape.{Shape}
 use Rattle.tube_spec.specs.Tick.{at_tick}
-use Rattle.hull_tree.specs.declared.revisit.Query.{Query}
+use Rattle.tube_names.specs.declared.queries.Query.{Query}
 use Rattle.loop_degree.specs.declared.labels.Label.{Label}
 use Rattle.loop_prover.specs.First.{label_of}
 use Rattle.loop_sets.specs.declared.turns.View.{View}
@@ -24,9 +25,9 @@ pub record IsView (view : View) : Type 0 where
   pub x : view.query.now.x.0 < length view.store.now.shape.signals
   pub y : view.query.now.y.0 < length view.store.now.shape.signals
   pub d1_least : pos 1 ≤ℤ view.d1
-  pub d1_most : view.d1 ≤ℤ pos 2000000000
+  pub d1_most : view.d1 ≤ℤ pos greatest_radius
   pub d2_least : pos 1 ≤ℤ view.d2
-  pub d2_most : view.d2 ≤ℤ pos 2000000000
+  pub d2_most : view.d2 ≤ℤ pos greatest_radius
 
 -- the degree where it is not 0 and the step bounds are reached
 abbrev pub tested : Query → ℤ → ℤ → Option ℤ → Option ℤ

@@ -1,6 +1,9 @@
+//! The step bounds over a set of pairs.
+
 ghost use Rattle.std.specs.Prelude.{◌≡◌, ◌+◌, ◌-◌, ◌<◌, ◌≤◌, ◌≤ℤ◌, ℕ, pos, All, IsSome, IfSome, IfOk, length, map};
 ghost use Rattle.std.specs.Bool.{OnTrue};
 ghost use Rattle.std.specs.List.{range_with_len, fold};
+ghost use Rattle.tube_spec.specs.Limits.{greatest_radius, most_ticks};
 ghost use Rattle.tube_spec.specs.Grid.{last_tick};
 ghost use Rattle.tube_spec.specs.Tick.{at_tick};
 ghost use Rattle.tplane_paver.specs.Runs.{AreInOrder};
@@ -60,7 +63,7 @@ fn are_topped(steps: &Table, a: u32, top: i64, first: u32, last: u32) -> bool
     requires a { a < length steps.now }
     requires order { first ≤ last }
     requires within { last < length steps.now }
-    requires short { length steps.now ≤ 100000 }
+    requires short { length steps.now ≤ most_ticks }
     ensures { OnTrue result (AreTopped (step_at steps.now) a top first last) }
 {
     match steps.over(first as usize, last as usize) {
@@ -76,12 +79,12 @@ fn raised(steps: &Table, a: u32, top: i64, first: u32, last: u32) -> i64
     requires a { a < length steps.now }
     requires order { first ≤ last }
     requires within { last < length steps.now }
-    requires short { length steps.now ≤ 100000 }
+    requires short { length steps.now ≤ most_ticks }
     requires least { pos 1 ≤ℤ top }
-    requires most { top ≤ℤ pos 2000000000 }
+    requires most { top ≤ℤ pos greatest_radius }
     ensures value { result ≡ fold (greater_sum (step_at steps.now)) top (column a first (last + 1 - first)) }
     ensures least { pos 1 ≤ℤ result }
-    ensures most { result ≤ℤ pos 2000000000 }
+    ensures most { result ≤ℤ pos greatest_radius }
 {
     if are_topped(steps, a, top, first, last) {
         return top;
@@ -100,10 +103,10 @@ pub(crate) fn bound_over(steps: &Table, cells: &[Run]) -> i64
     requires steps { AreSteps steps.now }
     requires order { AreInOrder cells.now }
     requires within { EndBefore cells.now (length steps.now) }
-    requires short { length steps.now ≤ 100000 }
+    requires short { length steps.now ≤ most_ticks }
     ensures value { result ≡ greatest_sum (step_at steps.now) (pairs_in cells.now) }
     ensures least { pos 1 ≤ℤ result }
-    ensures most { result ≤ℤ pos 2000000000 }
+    ensures most { result ≤ℤ pos greatest_radius }
 {
     let mut top = 1i64;
     for run in cells {

@@ -1,3 +1,5 @@
+//! The cells of a set of possible pairs.
+
 ghost use Rattle.std.specs.Prelude.{◌≡◌, ℕ, ◌+◌, ◌*◌, ◌++◌, ◌<◌, ◌≤◌, ◌⊎◌, ◌↔◌, IfOk, IfSome, IsTrue, OnOk, length};
 ghost use Rattle.tplane_paver.specs.Runs.{InRun, InRuns, AreInOrder};
 ghost use Rattle.loop_sets.specs.Cells.{AreCellsOf, column, ticks_in};

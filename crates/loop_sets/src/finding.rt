@@ -1,6 +1,10 @@
+//! What is found of a set: by a sure pair, by the degree, or nothing.
+
 ghost use Rattle.std.specs.Prelude.{◌≡◌, ◌<◌, ◌≤◌, ◌≤ℤ◌, ◌-ℤ◌, pos, All, IsSome, IfSome, IfOk, length, map};
+ghost use Rattle.tube_spec.specs.Limits.{greatest_radius, most_runs};
 ghost use Rattle.tube_spec.specs.Span.{natural};
-ghost use Rattle.hull_tree.specs.Plane.{plane_of, is_near};
+ghost use Rattle.hull_tree.specs.Plane.{plane_of};
+ghost use Rattle.tube_names.specs.Nearness.{is_near};
 ghost use Rattle.tplane_paver.specs.Runs.{AreInOrder};
 ghost use Rattle.loop_sets.specs.Sets.{IsComponent};
 ghost use Rattle.loop_degree.specs.Boundary.{IsSmall};
@@ -9,10 +13,10 @@ ghost use Rattle.loop_sets.specs.Finding.{IsFinding, IsTested};
 
 use crate::bounds::{bound_over, steps_of};
 use crate::cells::cell_runs;
-use crate::sure::{is_near, least_sure};
+use crate::sure::least_sure;
 use crate::tube::Tube;
 use crate::turns::{View, set_turns};
-use hull_tree::Query;
+use hull_tree::{Query, is_near};
 use std::alloc::{AllocError, Global};
 use tplane_paver::{Component, Run};
 use tube_io::NoMemory;
@@ -48,7 +52,7 @@ pub fn prove(
     requires rates_x { All (λ r. r.0 < length store.now.shape.signals) rates_x.now }
     requires rates_y { All (λ r. r.0 < length store.now.shape.signals) rates_y.now }
     requires radius { pos 0 ≤ℤ q.now.radius }
-    requires small { q.now.radius ≤ℤ pos 2000000000 }
+    requires small { q.now.radius ≤ℤ pos greatest_radius }
     requires set { IfSome store.now.box (λ xs. IsComponent (plane_of store.now.shape xs q.now) set.now) }
     ensures { IfOk result (λ found. IfSome store.now.box (λ xs. IsFinding store.now.shape xs q.now (map (λ r. r.0) rates_x.now) (map (λ r. r.0) rates_y.now) set.now found)) }
 {
@@ -74,14 +78,14 @@ fn degree_of(
     rates_y: &[SignalId],
 ) -> Result<Option<i64>, AllocError>
     requires order { AreInOrder set.now }
-    requires few { length set.now ≤ 2000000 }
+    requires few { length set.now ≤ most_runs }
     requires filled { IsSome store.now.box }
     requires x { q.now.x.0 < length store.now.shape.signals }
     requires y { q.now.y.0 < length store.now.shape.signals }
     requires rates_x { All (λ r. r.0 < length store.now.shape.signals) rates_x.now }
     requires rates_y { All (λ r. r.0 < length store.now.shape.signals) rates_y.now }
     requires radius { pos 0 ≤ℤ q.now.radius }
-    requires small { q.now.radius ≤ℤ pos 2000000000 }
+    requires small { q.now.radius ≤ℤ pos greatest_radius }
     ensures { IfOk result (λ degree. IfSome store.now.box (λ xs. IsTested store.now.shape xs q.now (map (λ r. r.0) rates_x.now) (map (λ r. r.0) rates_y.now) set.now degree)) }
 {
     store.grid().known();
@@ -103,11 +107,11 @@ fn degree_of(
 /// The degree where it is not 0 and the step bounds are near enough.
 fn tested(q: &Query, d1: i64, d2: i64, turns: Option<i64>) -> Option<i64>
     requires radius { pos 0 ≤ℤ q.now.radius }
-    requires small { q.now.radius ≤ℤ pos 2000000000 }
+    requires small { q.now.radius ≤ℤ pos greatest_radius }
     requires d1_least { pos 1 ≤ℤ d1 }
-    requires d1_most { d1 ≤ℤ pos 2000000000 }
+    requires d1_most { d1 ≤ℤ pos greatest_radius }
     requires d2_least { pos 1 ≤ℤ d2 }
-    requires d2_most { d2 ≤ℤ pos 2000000000 }
+    requires d2_most { d2 ≤ℤ pos greatest_radius }
     requires turns { IfSome turns (IsSmall 10000000000000) }
     ensures { result ≡ tested q.now d1 d2 turns }
 {
@@ -125,22 +129,22 @@ fn tested(q: &Query, d1: i64, d2: i64, turns: Option<i64>) -> Option<i64>
 /// Whether both step bounds less one are near.
 fn is_reached(q: &Query, d1: i64, d2: i64) -> bool
     requires radius { pos 0 ≤ℤ q.now.radius }
-    requires small { q.now.radius ≤ℤ pos 2000000000 }
+    requires small { q.now.radius ≤ℤ pos greatest_radius }
     requires d1_least { pos 1 ≤ℤ d1 }
-    requires d1_most { d1 ≤ℤ pos 2000000000 }
+    requires d1_most { d1 ≤ℤ pos greatest_radius }
     requires d2_least { pos 1 ≤ℤ d2 }
-    requires d2_most { d2 ≤ℤ pos 2000000000 }
+    requires d2_most { d2 ≤ℤ pos greatest_radius }
     ensures { result ≡ is_near q.now.norm (natural q.now.radius) (natural (d1 -ℤ pos 1)) (natural (d2 -ℤ pos 1)) }
 {
-    is_near(q.norm, q.radius as u64, one_less(d1), one_less(d2))
+    is_near(q.norm, q.radius as u32, one_less(d1), one_less(d2))
 }
 
 /// One less than a step bound.
 fn one_less(d: i64) -> u64
     requires least { pos 1 ≤ℤ d }
-    requires most { d ≤ℤ pos 2000000000 }
+    requires most { d ≤ℤ pos greatest_radius }
     ensures value { result ≡ natural (d -ℤ pos 1) }
-    ensures small { result ≤ 2000000000 }
+    ensures small { result ≤ greatest_radius }
 {
     (d - 1) as u64
 }

@@ -1,3 +1,5 @@
+//! What a component and a finding say of trajectories.
+
 ghost use Rattle.loop_sets.specs.Finding.{ComponentLaw, FindingLaw};
 
 /// Does nothing. Its contract: each set that `components` gives of what `pave` gave is a component of the plane, as [`prove`](crate::prove)

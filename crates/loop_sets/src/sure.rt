@@ -1,36 +1,27 @@
+//! The least sure pair of a set.
+
 ghost use Rattle.std.specs.Prelude.{◌≡◌, ◌≤◌, ◌<◌, ◌≤ℤ◌, pos, ℕ, true, MatchOption, length};
 ghost use Rattle.std.specs.Bool.{OnFalse};
+ghost use Rattle.tube_spec.specs.Limits.{greatest_radius};
 ghost use Rattle.tube_spec.specs.Span.{natural};
-ghost use Rattle.hull_tree.specs.Plane.{is_near, is_valid, is_sure};
+ghost use Rattle.hull_tree.specs.Plane.{is_valid, is_sure};
+ghost use Rattle.tube_names.specs.Nearness.{is_near};
 ghost use Rattle.tplane_paver.specs.Runs.{AreInOrder, InRuns};
 ghost use Rattle.loop_sets.specs.Sets.{plane_over, IsTracked, AreValid, HaveNoSure, IsFirstSure, IsNoneSure, IsLeastSure};
 
 use crate::tube::Tube;
-use hull_tree::{Norm, Query};
+use hull_tree::{Query, is_near};
 use tplane_paver::Run;
-
-/// Whether two places are near whose distances in x and in y are these.
-pub(crate) fn is_near(norm: Norm, radius: u64, dx: u64, dy: u64) -> bool
-    requires radius { radius ≤ 2000000000 }
-    requires dx { dx ≤ 2000000000 }
-    requires dy { dy ≤ 2000000000 }
-    ensures { result ≡ is_near norm radius dx dy }
-{
-    match norm {
-        Norm::Maximum => dx <= radius && dy <= radius,
-        Norm::Disc => dx * dx + dy * dy <= radius * radius,
-    }
-}
 
 /// Whether two places are near by a query.
 fn is_close(q: &Query, dx: u64, dy: u64) -> bool
     requires radius { pos 0 ≤ℤ q.now.radius }
-    requires small { q.now.radius ≤ℤ pos 2000000000 }
-    requires dx { dx ≤ 2000000000 }
-    requires dy { dy ≤ 2000000000 }
+    requires small { q.now.radius ≤ℤ pos greatest_radius }
+    requires dx { dx ≤ greatest_radius }
+    requires dy { dy ≤ greatest_radius }
     ensures { result ≡ is_near q.now.norm (natural q.now.radius) dx dy }
 {
-    is_near(q.norm, q.radius as u64, dx, dy)
+    is_near(q.norm, q.radius as u32, dx, dy)
 }
 
 /// Whether a valid pair is sure.

@@ -1,3 +1,5 @@
+//! The greatest of neighbouring numbers, in a table.
+
 ghost use Rattle.std.specs.Prelude.{◌≡◌, ℕ, ◌+◌, ◌*◌, ◌<◌, ◌≤◌, ℤ, List, All, IfOk, IfSome, length};
 ghost use Rattle.std.specs.Int.{int_max};
 ghost use Rattle.loop_sets.specs.Tables.{number_at, AreSmall, IsLevel, IsTop};

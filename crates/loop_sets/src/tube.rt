@@ -1,5 +1,8 @@
+//! What a signal may be at each tick, and what it may change by.
+
 ghost use Rattle.std.specs.Prelude.{◌≡◌, ◌≤◌, ◌<◌, ◌+◌, ℕ, pos, ◌≤ℤ◌, ◌-ℤ◌, IfOk, IfSome, IsSome, length, map, neg_ℤ};
 ghost use Rattle.std.specs.Int.{int_max};
+ghost use Rattle.tube_spec.specs.Limits.{greatest_bound, greatest_radius, most_ticks};
 ghost use Rattle.tube_spec.specs.Span.{IsBounded, sub_of, natural};
 ghost use Rattle.tube_spec.specs.Grid.{last_tick};
 ghost use Rattle.tube_spec.specs.Box.{AreBounded, cell_at};
@@ -40,7 +43,7 @@ impl Tube {
         requires signal { signal.0 < length store.now.shape.signals }
         ensures tube { IfOk result (λ tube. IfSome store.now.box (λ xs. tube ≡ tube_of store.now.shape xs signal.0)) }
         ensures len { IfOk result (λ tube. length tube ≡ last_tick store.now.shape.grid + 1) }
-        ensures short { last_tick store.now.shape.grid ≤ 100000 }
+        ensures short { last_tick store.now.shape.grid ≤ most_ticks }
     {
         let ticks = ticks_of(alloc, store, signal)?;
         let lower = Table::new(alloc, lower_bounds(alloc, &ticks)?)?;
@@ -57,7 +60,7 @@ impl Tube {
         requires a { a < length self.now }
         requires b { b < length self.now }
         ensures value { result ≡ greatest_abs (change self.now a b) }
-        ensures small { result ≤ 2000000000 }
+        ensures small { result ≤ greatest_radius }
     {
         greatest_change(self.ticks[a as usize], self.ticks[b as usize])
     }
@@ -67,9 +70,9 @@ impl Tube {
         requires a { a < length self.now }
         requires order { first ≤ last }
         requires within { last < length self.now }
-        requires short { length self.now ≤ 100001 }
+        requires short { length self.now ≤ most_ticks + 1 }
         ensures reach { (b : ℕ) → first ≤ b → b ≤ last → result ≤ greatest_abs (change self.now a b) }
-        ensures small { result ≤ 2000000000 }
+        ensures small { result ≤ greatest_radius }
     {
         let at = self.ticks[a as usize];
         let lower = self.lower.over(first as usize, last as usize);
@@ -85,7 +88,7 @@ fn ticks_of(alloc: Global, store: &Store, signal: SignalId) -> Result<Vec<Interv
     ensures tube { IfOk result (λ ticks. IfSome store.now.box (λ xs. ticks.items ≡ tube_of store.now.shape xs signal.0)) }
     ensures len { IfOk result (λ ticks. length ticks.items ≡ last_tick store.now.shape.grid + 1) }
     ensures bounded { IfOk result (λ ticks. AreBounded ticks.items) }
-    ensures short { last_tick store.now.shape.grid ≤ 100000 }
+    ensures short { last_tick store.now.shape.grid ≤ most_ticks }
 {
     store.grid().known();
     let mut ticks: Vec<Interval> = Vec::new(alloc);
@@ -138,17 +141,17 @@ fn difference(x: i64, y: i64) -> i64
     requires x { IsSmallNumber x }
     requires y { IsSmallNumber y }
     ensures value { result ≡ x -ℤ y }
-    ensures most { result ≤ℤ pos 2000000000 }
+    ensures most { result ≤ℤ pos greatest_radius }
 {
     x - y
 }
 
 /// The greatest distance between a number of one interval and a number of another.
 fn greatest_change(before: Interval, after: Interval) -> u64
-    requires before { IsBounded 500000000 before }
-    requires after { IsBounded 500000000 after }
+    requires before { IsBounded greatest_bound before }
+    requires after { IsBounded greatest_bound after }
     ensures value { result ≡ greatest_abs (sub_of after before) }
-    ensures small { result ≤ 2000000000 }
+    ensures small { result ≤ greatest_radius }
 {
     let change = after.sub(before);
     distance(change.hi(), -change.lo())
@@ -157,11 +160,11 @@ fn greatest_change(before: Interval, after: Interval) -> u64
 /// The least of the greatest distances between an interval and others, of which no lower bound is above the one number and no opposite of
 /// an upper bound above the other.
 fn reach(at: Interval, lower: Option<i64>, upper: Option<i64>) -> u64
-    requires at { IsBounded 500000000 at }
+    requires at { IsBounded greatest_bound at }
     requires lower { IfSome lower IsSmallNumber }
     requires upper { IfSome upper IsSmallNumber }
     ensures value { result ≡ reach_of at lower upper }
-    ensures small { result ≤ 2000000000 }
+    ensures small { result ≤ greatest_radius }
 {
     match (lower, upper) {
         (Some(lower), Some(upper)) => {
@@ -175,10 +178,10 @@ fn reach(at: Interval, lower: Option<i64>, upper: Option<i64>) -> u64
 
 /// The greater of both, or 0 where both are below.
 fn distance(a: i64, b: i64) -> u64
-    requires a { a ≤ℤ pos 2000000000 }
-    requires b { b ≤ℤ pos 2000000000 }
+    requires a { a ≤ℤ pos greatest_radius }
+    requires b { b ≤ℤ pos greatest_radius }
     ensures value { result ≡ natural (int_max a b) }
-    ensures small { result ≤ 2000000000 }
+    ensures small { result ≤ greatest_radius }
 {
     let greater = if a >= b { a } else { b };
     if greater < 0 { 0 } else { greater as u64 }

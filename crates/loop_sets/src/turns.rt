@@ -1,4 +1,7 @@
+//! The turns of a trajectory round the boundary of a set, which make the degree.
+
 ghost use Rattle.std.specs.Prelude.{◌≡◌, ◌+◌, ◌-◌, ◌<◌, ◌≤◌, false, MatchOption, IfSome, IsTrue, ◌↔◌, length};
+ghost use Rattle.tube_spec.specs.Limits.{most_ticks};
 ghost use Rattle.tube_spec.specs.Grid.{last_tick};
 ghost use Rattle.tplane_paver.specs.Runs.{InRun, InRuns, AreInOrder};
 ghost use Rattle.tplane_paver.specs.Components.{HasRun};
@@ -101,7 +104,7 @@ fn upright_turn(view: &View<'_>, a: u32, up: bool, b: u32) -> Option<i64>
     requires view { IsView view.now }
     requires a { a ≤ last_tick view.now.store.now.shape.grid }
     requires b { b < last_tick view.now.store.now.shape.grid }
-    requires short { b < 100000 }
+    requires short { b < most_ticks }
     ensures value { result ≡ upright (label_by view.now) a up b }
     ensures small { IfSome result (IsSmall 1) }
 {
@@ -130,7 +133,7 @@ fn open_turns(
     requires a { a ≤ last_tick view.now.store.now.shape.grid }
     requires some { first ≤ last }
     requires last { last < last_tick view.now.store.now.shape.grid }
-    requires short { last < 100000 }
+    requires short { last < most_ticks }
     ensures value { result ≡ sum_along (open_turn (label_by view.now) (pairs_in cells.now) beside a up) first (last + 1 - first) }
     ensures small { IfSome result (IsSmall (last + 1 - first)) }
 {
@@ -163,7 +166,7 @@ fn run_turns(view: &View<'_>, cells: &[Run], run: Run) -> Option<i64>
     requires named { HasRun cells.now run }
     requires some { run.first ≤ run.last }
     requires within { (run.a < last_tick view.now.store.now.shape.grid) × (run.last < last_tick view.now.store.now.shape.grid) }
-    requires short { (run.a < 100000) × (run.last < 100000) }
+    requires short { (run.a < most_ticks) × (run.last < most_ticks) }
     ensures value { result ≡ sum_cells (cell_turns (label_by view.now) (pairs_in cells.now)) (column run.a run.first (ticks_in run)) }
     ensures small { IfSome result (IsSmall 400000) }
 {
@@ -187,7 +190,7 @@ pub(crate) fn set_turns(view: &View<'_>, cells: &[Run]) -> Option<i64>
     requires order { AreInOrder cells.now }
     requires few { length cells.now ≤ 4000000 }
     requires within { EndBefore cells.now (last_tick view.now.store.now.shape.grid) }
-    requires short { last_tick view.now.store.now.shape.grid ≤ 100000 }
+    requires short { last_tick view.now.store.now.shape.grid ≤ most_ticks }
     ensures value { result ≡ turns_along (label_by view.now) (boundary (pairs_in cells.now)) }
     ensures small { IfSome result (IsSmall 10000000000000) }
 {

@@ -11,8 +11,8 @@ use Rattle.tube_store.specs.declared.VarId.{VarId}
 use Rattle.log_spelling.specs.declared.reference.Part.{Part}
 use Rattle.log_spelling.specs.declared.reference.Part.TheVariants as part
 use Rattle.mission_items.specs.Made.{beacon_ranges, beacons_in, beacons_made, ranges_from, signal_range, signal_ranges, signals_in, signals_made, variable_range, variable_ranges, variables_in, variables_made}
-use Rattle.expr_hc4.specs.declared.places.Leaf.{Leaf}
-use Rattle.expr_hc4.specs.declared.places.Leaf.TheVariants.{Sig, Var}
+use Rattle.tube_names.specs.declared.leaves.Leaf.{Leaf}
+use Rattle.tube_names.specs.declared.leaves.Leaf.TheVariants.{Sig, Var}
 use Rattle.log_spelling.specs.References.{bare_name, part_of}
 use Rattle.mission_items.specs.Names.{beacon_of, declaration_of, declared, declared_from, leaf_at, leaf_of, leaf_range, names_of, range_of, signal_of, variable_of, IsNamed}
 use Rattle.mission_items.specs.declared.decl.Decl.{Decl}

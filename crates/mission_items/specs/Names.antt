@@ -8,8 +8,8 @@ use Rattle.tube_store.specs.declared.VarId.{VarId}
 use Rattle.log_spelling.specs.References.{bare_name, part_of}
 use Rattle.log_spelling.specs.declared.reference.Part.{Part}
 use Rattle.log_spelling.specs.declared.reference.Part.TheVariants as part
-use Rattle.expr_hc4.specs.declared.places.Leaf.{Leaf}
-use Rattle.expr_hc4.specs.declared.places.Leaf.TheVariants.{Sig, Var}
+use Rattle.tube_names.specs.declared.leaves.Leaf.{Leaf}
+use Rattle.tube_names.specs.declared.leaves.Leaf.TheVariants.{Sig, Var}
 use Rattle.mission_items.specs.Made.{beacons_in, signal_range, signals_in, variable_range, variables_in}
 use Rattle.mission_items.specs.declared.decl.Decl.{Decl}
 use Rattle.mission_items.specs.declared.decl.Decl.TheVariants as decl

@@ -1,10 +1,10 @@
 -- The room that records take: cells, and read entries.
 use Rattle.std.specs.Prelude.{ℕ, ◌+◌, ◌-◌, ◌*◌, ◌&&◌, nat_le, Bool, List, [], ◌∷◌, ◌++◌, Option, Some, None, is_some, length, max, pos, if◌then◌else◌}
 use Rattle.tube_spec.specs.Span.{Span, point}
-use Rattle.ctc_eval.specs.Near.{near_of}
-use Rattle.ctc_eval.specs.declared.near.Near.{Near}
-use Rattle.expr_hc4.specs.Places.{first_uses}
-use Rattle.expr_hc4.specs.declared.places.Leaf.{Leaf}
+use Rattle.slice_gates.specs.Near.{near_of}
+use Rattle.slice_gates.specs.declared.near.Near.{Near}
+use Rattle.tube_names.specs.Leaves.{first_uses}
+use Rattle.tube_names.specs.declared.leaves.Leaf.{Leaf}
 use Rattle.mission_items.specs.Made.{beacons_in, rate_in, ticks_from, variable_range}
 use Rattle.mission_items.specs.declared.item.Item.{Item}
 use Rattle.mission_items.specs.declared.item.Item.TheVariants as item

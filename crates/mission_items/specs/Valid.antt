@@ -11,11 +11,11 @@ use Rattle.expr_tree.specs.Measures.{relation_names}
 use Rattle.expr_text.specs.Spellable.{IsPrintable}
 use Rattle.expr_values.specs.Expressions.{leaves, numbered}
 use Rattle.expr_values.specs.Values.{range_value}
-use Rattle.expr_hc4.specs.declared.places.Leaf.{Leaf}
-use Rattle.expr_hc4.specs.declared.places.Leaf.TheVariants.{Sig, Var}
-use Rattle.hull_tree.specs.declared.revisit.Norm.{Norm}
-use Rattle.hull_tree.specs.declared.revisit.Norm.TheVariants.{Maximum, Disc}
-use Rattle.hull_tree.specs.declared.revisit.Query.{Query}
+use Rattle.tube_names.specs.declared.leaves.Leaf.{Leaf}
+use Rattle.tube_names.specs.declared.leaves.Leaf.TheVariants.{Sig, Var}
+use Rattle.tube_names.specs.declared.queries.Norm.{Norm}
+use Rattle.tube_names.specs.declared.queries.Norm.TheVariants.{Maximum, Disc}
+use Rattle.tube_names.specs.declared.queries.Query.{Query}
 use Rattle.mission_items.specs.Made.{beacons_in, has_head, signals_in, ticks_from, variable_range, variables_in}
 use Rattle.mission_items.specs.Names.{are_distinct, declaration_of, leaf_at, leaf_range, IsNamed}
 use Rattle.mission_items.specs.Cuts.{boundaries}

@@ -3,12 +3,11 @@
 ghost use Rattle.std.specs.Prelude.{◌≡◌};
 ghost use Rattle.mission_items.specs.Made.{beacons_made, is_head, signals_made, variables_made};
 
-use expr_hc4::Leaf;
 use formula_text::Formula;
-use hull_tree::Query;
 use int_interval::Interval;
 use std::marker::Model;
 use tube_io::Text;
+use tube_names::{Leaf, Query};
 use tube_store::{SignalId, VarId};
 
 /// What the names of a formula stand for, from the left. A contract sees the list of them.
@@ -19,7 +18,7 @@ pub struct Leaves {
 
 impl Model for Leaves {
     ghost use Rattle.std.specs.Prelude.{List};
-    ghost use Rattle.expr_hc4.specs.declared.places.Leaf.{Leaf};
+    ghost use Rattle.tube_names.specs.declared.leaves.Leaf.{Leaf};
 
     ghost Value = { List Leaf };
 

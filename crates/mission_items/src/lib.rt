@@ -7,7 +7,9 @@
 pub mod decl;
 pub mod item;
 pub mod mission;
+pub mod ticks;
 
 pub use decl::Decl;
 pub use item::{Item, Leaves};
 pub use mission::{Items, Mission};
+pub use ticks::ticks_from;

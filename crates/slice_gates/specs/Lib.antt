@@ -1,2 +1,4 @@
 pub mod Cuts
 pub mod Ticks
+pub mod Clock
+pub mod Near

@@ -1,26 +1,34 @@
-//! The grid of slices: the boundary ticks of a tube's slices, and where a tick stands among them.
+//! The grid of slices: the boundary ticks of a tube's slices, where a tick stands among them, and which slices share a tick with a range.
 #![tactic(auto)]
+
+mod clock;
+mod laws;
+mod near;
 
 ghost use Rattle.std.specs.Prelude.{◌≡◌, ◌+◌, ◌*◌, ◌<◌, ◌≤◌, ◌↔◌, IsTrue, IsErrOf, IfOk, IsOkUnless, IsFalse, length, slice_index};
 ghost use Rattle.std.specs.List.Sorted.{IsStrictlyIncreasing};
+ghost use Rattle.tube_spec.specs.Limits.{most_ticks};
 ghost use Rattle.tube_spec.specs.Grid.{IsGrid, last_tick};
 ghost use Rattle.tube_spec.specs.Tick.{tick_place};
 ghost use Rattle.slice_gates.specs.Cuts.{HasEnds, HasBadEnds, HasFall, uniform_cuts, multiples};
 ghost use Rattle.slice_gates.specs.Ticks.{IsSliceOf, IsGateOf};
 ghost use Rattle.slice_gates.specs.declared.GridFault.TheVariants.{NoMemory};
 
+pub use clock::{Ticks, ticks_in};
+pub use laws::near_law;
+pub use near::{Near, near_in};
 use std::alloc::{AllocError, Global};
 use std::marker::Model;
 
 /// The greatest tick that a grid may end at.
-pub const MAX_TICK: u32 = 100_000;
+pub const MOST_TICKS: u32 = 100_000;
 
 /// Why a grid could not be made.
 #[derive(Clone, Copy, Debug, PartialEq, Eq)]
 pub enum GridFault {
     /// Some cut is not above the one before.
     NotRising,
-    /// There are fewer than two cuts, or the first is not 0, or the last is above `MAX_TICK`.
+    /// There are fewer than two cuts, or the first is not 0, or the last is above `MOST_TICKS`.
     BadEnds,
     /// Memory ran out.
     NoMemory,
@@ -57,9 +65,9 @@ impl Grid {
     /// Slices of `width` ticks from tick 0 on, of which the last ends at `ticks` and may be shorter.
     pub fn uniform(alloc: Global, ticks: u32, width: u32) -> Result<Grid, GridFault>
         requires some_tick { 1 ≤ ticks }
-        requires few_ticks { ticks ≤ 100000 }
+        requires few_ticks { ticks ≤ most_ticks }
         requires some_width { 1 ≤ width }
-        requires small_width { width ≤ 100000 }
+        requires small_width { width ≤ most_ticks }
         ensures value { IfOk result (λ grid. grid ≡ uniform_cuts ticks width) }
         ensures refusal { IsOkUnless result NoMemory }
     {
@@ -78,7 +86,7 @@ impl Grid {
         ensures bad_ends { IsErrOf result GridFault.BadEnds ↔ HasBadEnds cuts.now }
         ensures not_rising { IsErrOf result GridFault.NotRising ↔ (HasEnds cuts.now × HasFall cuts.now) }
     {
-        if cuts.len() < 2 || cuts[0] != 0 || cuts[cuts.len() - 1] > MAX_TICK {
+        if cuts.len() < 2 || cuts[0] != 0 || cuts[cuts.len() - 1] > MOST_TICKS {
             return Err(GridFault::BadEnds);
         }
         if !is_rising(cuts) {
@@ -88,7 +96,15 @@ impl Grid {
         Ok(Grid { bounds })
     }
 
-    /// The boundaries rise from 0 to at most `MAX_TICK`.
+    /// A grid with the same boundaries, in memory of its own.
+    pub fn copy(&self, alloc: Global) -> Result<Grid, AllocError>
+        ensures { IfOk result (λ grid. grid ≡ self.now) }
+    {
+        let bounds = self.bounds.as_slice().to_vec(alloc)?;
+        Ok(Grid { bounds })
+    }
+
+    /// The boundaries rise from 0 to at most `MOST_TICKS`.
     pub fn known(&self)
         ensures { IsGrid self.now }
     {

@@ -3,7 +3,7 @@ use Rattle.std.proofs.Common.{◌≡◌, ℕ, [], ◌∷◌, pos, refl}
 use Rattle.tube_spec.specs.Span.{point}
 use Rattle.hull_tree.specs.Plane.{Plane, is_possible}
 use Rattle.hull_tree.specs.Judging.{judged}
-use Rattle.hull_tree.specs.declared.revisit.Norm.TheVariants.{Maximum}
+use Rattle.tube_names.specs.declared.queries.Norm.TheVariants.{Maximum}
 use Rattle.tplane_paver.specs.Rows.{runs_count}
 use Rattle.tplane_paver.specs.Quartering.{mixed_below}
 use Rattle.tplane_paver.specs.Runs.{pair_count}

@@ -5,6 +5,7 @@ use Rattle.tplane_paver.specs.declared.rows.Stretch.{Stretch}
 use Rattle.tplane_paver.specs.Rows.{row_at}
 use Rattle.tplane_paver.specs.declared.paving.PaveFault.{PaveFault}
 use Rattle.tplane_paver.specs.declared.paving.PaveFault.TheVariants.{Crowded, NoMemory}
+use Rattle.tube_spec.specs.Limits.{most_runs}
 
 -- a fact where there are too many runs
 abbrev pub IfCrowded : {T : Type 0} → Result T PaveFault → Type 0 → Type 0
@@ -61,5 +62,5 @@ StandAt pairs n rows a a_end b = (i : ℕ) → a ≤ i → i < a_end → i < n �
 pub record IsWork (pairs : ℕ → ℕ → Bool) (n : ℕ) (rows : List (List Stretch)) (count : ℕ) : Type 0 where
   pub len : length rows ≡ n
   pub counted : count ≡ sum_by length rows
-  pub room : count ≤ 2000000
+  pub room : count ≤ most_runs
   pub begun : AreBegun pairs n rows

@@ -1,8 +1,11 @@
+//! The components of a paving.
+
 ghost use Rattle.std.specs.Prelude.{◌≡◌, ◌≢◌, ℕ, ◌+◌, ◌-◌, ◌++◌, [], ◌∷◌, ◌<◌, ◌≤◌, IfOk, OnOk, length, slice_index};
 ghost use Rattle.tplane_paver.specs.Runs.{AreInOrder, IsBefore, run_at, pair_count};
 ghost use Rattle.tplane_paver.specs.Components.{AreComponents, SpansA, SpansB, set_at};
 ghost use Rattle.tplane_paver.specs.Forests.{GoDown, IsSwept, AddsRun};
 ghost use Rattle.tplane_paver.specs.declared.runs.Run.{Run};
+ghost use Rattle.tube_spec.specs.Limits.{most_runs};
 
 use crate::runs::{Run, Runs};
 use crate::sweep::linked;
@@ -18,6 +21,7 @@ pub struct Component {
 
 impl Model for Component {
     ghost use Rattle.std.specs.Prelude.{List, ◌≤◌, length};
+    ghost use Rattle.tube_spec.specs.Limits.{most_runs};
     ghost use Rattle.tplane_paver.specs.Runs.{AreInOrder};
     ghost use Rattle.tplane_paver.specs.declared.runs.Run.{Run};
 
@@ -25,7 +29,7 @@ impl Model for Component {
 
     ghost view = { λ c. c.runs.items };
 
-    ghost invariant = { λ c. AreInOrder c.runs.items × (1 ≤ length c.runs.items) × (length c.runs.items ≤ 2000000) };
+    ghost invariant = { λ c. AreInOrder c.runs.items × (1 ≤ length c.runs.items) × (length c.runs.items ≤ most_runs) };
 }
 
 impl Component {
@@ -43,7 +47,7 @@ impl Component {
     fn push(&mut self, run: Run) -> Result<(), AllocError>
         requires some { run.first ≤ run.last }
         requires later { (m : ℕ) → m < length self.old → IsBefore (run_at self.old m) run }
-        requires room { length self.old < 2000000 }
+        requires room { length self.old < most_runs }
         ensures { OnOk result (self.new ≡ self.old ++ run ∷ []) }
     {
         self.runs.push(run)?;
@@ -54,7 +58,7 @@ impl Component {
     pub fn runs(&self) -> &[Run]
         ensures all { result.now ≡ self.now }
         ensures some { 1 ≤ length self.now }
-        ensures few { length self.now ≤ 2000000 }
+        ensures few { length self.now ≤ most_runs }
         ensures order { AreInOrder self.now }
     {
         &self.runs
@@ -99,7 +103,7 @@ impl Component {
 
 /// How many pairs are in the runs.
 fn pairs_in(runs: &[Run]) -> u64
-    requires few { length runs.now ≤ 2000000 }
+    requires few { length runs.now ≤ most_runs }
     requires order { AreInOrder runs.now }
     ensures { result ≡ pair_count runs.now }
 {
@@ -148,7 +152,7 @@ pub fn components(alloc: Global, runs: &Runs) -> Result<Vec<Component>, NoMemory
 
 /// The runs of each tree, in rising order of the roots.
 fn gather(alloc: Global, runs: &[Run], parents: &[u32]) -> Result<Vec<Component>, AllocError>
-    requires few { length runs.now ≤ 2000000 }
+    requires few { length runs.now ≤ most_runs }
     requires order { AreInOrder runs.now }
     requires swept { IsSwept runs.now parents.now (length runs.now) }
     ensures { IfOk result (λ sets. AreComponents runs.now sets.items) }
@@ -183,7 +187,7 @@ fn add(alloc: Global, sets: &mut Vec<Component>, label: u32, run: Run) -> Result
     requires label { label ≤ length sets.old.items }
     requires some { run.first ≤ run.last }
     requires later { (m : ℕ) → m < length (set_at sets.old.items label) → IsBefore (run_at (set_at sets.old.items label) m) run }
-    requires room { length (set_at sets.old.items label) < 2000000 }
+    requires room { length (set_at sets.old.items label) < most_runs }
     ensures { OnOk result (AddsRun sets.old.items sets.new.items label run) }
 {
     if label as usize == sets.len() {

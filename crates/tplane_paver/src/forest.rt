@@ -1,11 +1,14 @@
+//! Trees of numbers that hang together.
+
 ghost use Rattle.std.specs.Prelude.{◌≡◌, ◌≢◌, ℕ, ◌<◌, ◌≤◌, IfOk, length, slice_index};
 ghost use Rattle.tplane_paver.specs.Forests.{Joined, IsParent, GoDown, KeepsTrees, JoinsTrees};
+ghost use Rattle.tube_spec.specs.Limits.{most_runs};
 
 use std::alloc::{AllocError, Global};
 
 /// Each number by itself, in a tree of its own.
 pub fn alone(alloc: Global, count: usize) -> Result<Vec<u32>, AllocError>
-    requires { count ≤ 2000000 }
+    requires { count ≤ most_runs }
     ensures len { IfOk result (λ v. length v.items ≡ count) }
     ensures own { IfOk result (λ v. (k : ℕ) → k < count → slice_index v.items k ≡ k) }
 {

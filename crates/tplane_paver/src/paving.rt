@@ -1,3 +1,5 @@
+//! The possible pairs of a plane, by quartering.
+
 ghost use Rattle.std.specs.Prelude.{◌≡◌, ◌+◌, ◌-◌, ◌*◌, ◌^◌, ◌<◌, ◌≤◌, ℕ, IfOk, OnOk, length, min, sum_by};
 ghost use Rattle.hull_tree.specs.Plane.{IsPlane, is_possible};
 ghost use Rattle.hull_tree.specs.Judging.{judged, Says};
@@ -7,9 +9,10 @@ ghost use Rattle.tplane_paver.specs.Quartering.{mixed_below, IsRoot};
 ghost use Rattle.tplane_paver.specs.Rows.{runs_count};
 ghost use Rattle.tplane_paver.specs.Paving.{IfCrowded, Puts, IsWork, Advances, StandAt, rows_of};
 ghost use Rattle.tplane_paver.specs.declared.paving.PaveFault.TheVariants.{NoMemory};
+ghost use Rattle.tube_spec.specs.Limits.{most_runs, most_ticks};
 
 use crate::rows::{Stretch, all_runs, empty_rows, extend};
-use crate::runs::{MOST, Runs};
+use crate::runs::{MOST_RUNS, Runs};
 use hull_tree::{HullTree, Judged};
 use std::alloc::{AllocError, Global};
 use std::sync::ledger::Ledger;
@@ -41,8 +44,8 @@ pub fn pave<L: Ledger>(
 ) -> Result<Runs, PaveFault>
     ensures runs { IfOk result (λ runs. AreMaximalRuns (is_possible tree.now) runs) }
     ensures count { IfOk result (λ runs. length runs ≡ runs_count (is_possible tree.now) (length tree.now.xs)) }
-    ensures few { OnOk result (runs_count (is_possible tree.now) (length tree.now.xs) ≤ 2000000) }
-    ensures crowded { IfCrowded result (2000000 < runs_count (is_possible tree.now) (length tree.now.xs)) }
+    ensures few { OnOk result (runs_count (is_possible tree.now) (length tree.now.xs) ≤ most_runs) }
+    ensures crowded { IfCrowded result (most_runs < runs_count (is_possible tree.now) (length tree.now.xs)) }
     ensures steps { (d : ℕ) → IsRoot (length tree.now.xs) d → steps.new ≤ steps.old + (1 + 4 * mixed_below (judged tree.now) (length tree.now.xs) d 0 0) }
 {
     let ticks = tick_count(tree);
@@ -66,7 +69,7 @@ fn tick_count(tree: &HullTree) -> u32
 
 /// The least power of two that is not below a number of ticks, and its exponent.
 fn root(ticks: u32) -> (u32, u32)
-    requires { ticks ≤ 100001 }
+    requires { ticks ≤ most_ticks + 1 }
     ensures side { result.0 ≡ 2 ^ result.1 }
     ensures root { IsRoot ticks result.1 }
     ensures small { result.0 ≤ 200002 }
@@ -90,7 +93,7 @@ struct Work {
 /// Puts the ticks from first to last at the end of a row.
 fn put(work: &mut Work, a: u32, first: u32, last: u32) -> Result<(), AllocError>
     requires row { a < length work.old.rows.items }
-    requires room { work.old.count ≤ 2000000 }
+    requires room { work.old.count ≤ most_runs }
     requires counted { work.old.count ≡ sum_by length (rows_of work.old.rows.items) }
     ensures put { OnOk result (Puts (rows_of work.old.rows.items) (rows_of work.new.rows.items) a first last) }
     ensures counted { OnOk result (work.new.count ≡ sum_by length (rows_of work.new.rows.items)) }
@@ -129,11 +132,11 @@ fn fill(
     requires possible { Says (is_possible tree.now) (record { first_a = a; last_a = a_last; first_b = b; last_b = b_last }) Within }
     ensures rows { OnOk result (Advances (is_possible tree.now) (length tree.now.xs) (rows_of work.old.rows.items) (rows_of work.new.rows.items) a (a_last + 1) (b_last + 1)) }
     ensures work { OnOk result (IsWork (is_possible tree.now) (length tree.now.xs) (rows_of work.new.rows.items) work.new.count) }
-    ensures crowded { IfCrowded result (2000000 < runs_count (is_possible tree.now) (length tree.now.xs)) }
+    ensures crowded { IfCrowded result (most_runs < runs_count (is_possible tree.now) (length tree.now.xs)) }
 {
     for i in a..a_last + 1 {
         put(work, i, b, b_last)?;
-        if work.count > MOST {
+        if work.count > MOST_RUNS {
             return Err(PaveFault::Crowded);
         }
     }
@@ -157,7 +160,7 @@ fn quarter<L: Ledger>(
     requires stand { StandAt (is_possible tree.now) (length tree.now.xs) (rows_of work.old.rows.items) a (a + side) b }
     ensures rows { OnOk result (Advances (is_possible tree.now) (length tree.now.xs) (rows_of work.old.rows.items) (rows_of work.new.rows.items) a (a + side) (b + side)) }
     ensures work { OnOk result (IsWork (is_possible tree.now) (length tree.now.xs) (rows_of work.new.rows.items) work.new.count) }
-    ensures crowded { IfCrowded result (2000000 < runs_count (is_possible tree.now) (length tree.now.xs)) }
+    ensures crowded { IfCrowded result (most_runs < runs_count (is_possible tree.now) (length tree.now.xs)) }
     ensures steps { steps.new ≤ steps.old + (1 + 4 * mixed_below (judged tree.now) (length tree.now.xs) depth a b) }
 {
     let ticks = tick_count(tree);

@@ -1,3 +1,5 @@
+//! The rows of a paving while it grows.
+
 ghost use Rattle.std.specs.Prelude.{◌≡◌, ◌+◌, ◌++◌, ◌<◌, ◌≤◌, ℕ, List, [], IsTrue, IfOk, OnOk, length, reverse, replicate};
 ghost use Rattle.tplane_paver.specs.Rows.{row_at, row_runs, runs_below};
 ghost use Rattle.tplane_paver.specs.Paving.{grown, joins, rows_of};

@@ -1,10 +1,13 @@
+//! Runs of possible pairs.
+
 ghost use Rattle.std.specs.Prelude.{◌≡◌, ◌<◌, ◌≤◌, length};
 ghost use Rattle.tplane_paver.specs.Runs.{AreInOrder, run_at};
+ghost use Rattle.tube_spec.specs.Limits.{most_runs};
 
 use std::marker::Model;
 
 /// The most runs of a query.
-pub const MOST: usize = 2_000_000;
+pub const MOST_RUNS: usize = 2_000_000;
 
 /// The pairs `(a, b)` with `b` from the first tick to the last, both included.
 #[derive(Clone, Copy, Debug, PartialEq, Eq)]
@@ -23,6 +26,7 @@ pub struct Runs {
 
 impl Model for Runs {
     ghost use Rattle.std.specs.Prelude.{List, ◌≤◌, length};
+    ghost use Rattle.tube_spec.specs.Limits.{most_runs};
     ghost use Rattle.tplane_paver.specs.Runs.{AreInOrder};
     ghost use Rattle.tplane_paver.specs.declared.runs.Run.{Run};
 
@@ -30,7 +34,7 @@ impl Model for Runs {
 
     ghost view = { λ r. r.runs.items };
 
-    ghost invariant = { λ r. AreInOrder r.runs.items × (length r.runs.items ≤ 2000000) };
+    ghost invariant = { λ r. AreInOrder r.runs.items × (length r.runs.items ≤ most_runs) };
 }
 
 impl Runs {
@@ -38,7 +42,7 @@ impl Runs {
     pub fn runs(&self) -> &[Run]
         ensures all { result.now ≡ self.now }
         ensures order { AreInOrder self.now }
-        ensures few { length self.now ≤ 2000000 }
+        ensures few { length self.now ≤ most_runs }
     {
         &self.runs
     }

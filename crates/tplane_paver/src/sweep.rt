@@ -1,6 +1,9 @@
+//! Which runs hang together, row by row.
+
 ghost use Rattle.std.specs.Prelude.{◌≡◌, ℕ, ◌+◌, ◌<◌, ◌≤◌, ◌↔◌, IsTrue, IfOk, length};
 ghost use Rattle.tplane_paver.specs.Runs.{AreInOrder, run_at};
 ghost use Rattle.tplane_paver.specs.Forests.{Touch, IsClearOf, IsSwept};
+ghost use Rattle.tube_spec.specs.Limits.{most_runs};
 
 use crate::forest::{alone, join};
 use crate::runs::Run;
@@ -9,7 +12,7 @@ use std::alloc::{AllocError, Global};
 /// A forest of the runs, in which two are in one tree exactly where they hang together. Neighbouring rows are gone through side by side,
 /// so that only runs that touch are looked at, and one more each time.
 pub fn linked(alloc: Global, runs: &[Run]) -> Result<Vec<u32>, AllocError>
-    requires few { length runs.now ≤ 2000000 }
+    requires few { length runs.now ≤ most_runs }
     requires order { AreInOrder runs.now }
     ensures { IfOk result (λ v. IsSwept runs.now v.items (length runs.now)) }
 {
@@ -41,7 +44,7 @@ fn first_near(runs: &[Run], from: usize, j: usize) -> usize
 
 /// Joins a run with the earlier ones that touch it, which are neighbours in the list.
 fn link_back(parents: &mut [u32], runs: &[Run], low: usize, j: usize)
-    requires few { length runs.now ≤ 2000000 }
+    requires few { length runs.now ≤ most_runs }
     requires order { AreInOrder runs.now }
     requires j { j < length runs.now }
     requires low { low ≤ j }

@@ -1,5 +1,6 @@
 -- Boxes: one interval for each cell, or the one empty box.
 use Rattle.std.specs.Prelude.{◌≡◌, ℕ, Option, Some, None, List, ◌++◌, length, pos, slice_index_or, sum_by}
+use Rattle.tube_spec.specs.Limits.{greatest_bound}
 use Rattle.tube_spec.specs.Span.{Span, IsProper, IsWithin, IsBounded, point, width_of}
 
 -- the interval of a cell, and 0..0 past the last
@@ -12,7 +13,7 @@ IsBox xs = (k : ℕ) → IsProper (cell_at xs k)
 
 -- each interval lies from -500,000,000 to 500,000,000
 abbrev pub AreBounded : List Span → Type 0
-AreBounded xs = (k : ℕ) → IsBounded 500000000 (cell_at xs k)
+AreBounded xs = (k : ℕ) → IsBounded greatest_bound (cell_at xs k)
 
 -- one box is below the other: interval by interval
 pub record IsBelow (xs ys : List Span) : Type 0 where

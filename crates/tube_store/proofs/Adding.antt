@@ -1,13 +1,16 @@
 -- Further cells keep what holds of a store.
-use Rattle.std.proofs.Common.{◌≡◌, ℕ, zero, suc, ◌+◌, ◌-◌, ◌≤◌, inl, inr, Bool, false, not, List, ◌++◌, arith, refl, sym, ap, subst, ◌∙◌, length, get_or, length-append, replicate, pos}
+use Rattle.std.proofs.Common.{◌≡◌, ℕ, zero, suc, ◌+◌, ◌-◌, ◌*◌, ◌≤◌, inl, inr, Bool, false, not, List, ◌++◌, arith, refl, sym, ap, ap₂, subst, ◌∙◌, length, get_or, length-append, replicate, pos, sum_by}
 use Rattle.std.proofs.Math.ListN.{get_or-append, length-replicate}
 use Rattle.std.proofs.lemmas.List.{get_or-append_right, get_or_past}
-use Rattle.std.proofs.lemmas.List.Sums.{count_by-le-length}
+use Rattle.std.proofs.lemmas.List.Sums.{count_by-le-length, sum_by-append}
+use Rattle.std.proofs.lemmas.List.Folds.{sum_by-replicate}
+use Rattle.std.proofs.Math.Nat.{mul-le-mul_left}
 use Rattle.std.proofs.lemmas.Int.{ints}
-use Rattle.tube_spec.specs.Span.{Span, IsProper, IsBounded, point}
+use Rattle.tube_spec.specs.Span.{Span, IsProper, IsBounded, point, width_of}
 use Rattle.tube_spec.specs.Box.{IsBox, AreBounded}
 use Rattle.tube_spec.proofs.Prefixes.{below-or-not, IsBox-append, IsBox-replicate}
 use Rattle.tube_spec.specs.Shape.{Shape, IsShape}
+use Rattle.tube_spec.proofs.Widths.{width-small, widths-small}
 use Rattle.tube_store.specs.Kept.{IsKept}
 
 -- what holds of the default and of each copy holds at each place of copies
@@ -34,9 +37,9 @@ marks-same marks n k = elim (below-or-not k (length marks)) [
 ]
 
 -- a store with n cells more, of which none is touched
-pub kept-longer : (old new : Shape) (cells more : List Span) (marks further : List Bool) (ring : List ℕ) (before after n : ℕ) (range : Span) → IsKept old cells marks ring before → IsShape new → IsProper range → IsBounded 500000000 range
-    → more ≡ cells ++ replicate n range → further ≡ marks ++ replicate n false → length ring + (length cells + n) ≤ after → IsKept new more further ring after
-kept-longer old new cells more marks further ring before after n range kept shape proper inside em ef room =
+pub kept-longer : (old new : Shape) (cells more : List Span) (marks further : List Bool) (ring : List ℕ) (before after total sum n : ℕ) (range : Span) → IsKept old cells marks ring before total → IsShape new → IsProper range → IsBounded 500000000 range
+    → more ≡ cells ++ replicate n range → further ≡ marks ++ replicate n false → length ring + (length cells + n) ≤ after → sum ≡ total + n * width_of range → IsKept new more further ring after sum
+kept-longer old new cells more marks further ring before after total sum n range kept shape proper inside em ef room es =
     let lm : length more ≡ length cells + n = length-more cells more n range em in
     let lf : length further ≡ length marks + n = length-more marks further n false ef in
     record {
@@ -49,4 +52,10 @@ kept-longer old new cells more marks further ring before after n range kept shap
         distinct = kept.ring.distinct;
         room = omega (arith, count_by-le-length not further, lf, room, kept.beside);
       };
+      widths = es ∙ ap₂ (λ (a b : ℕ). a + b) kept.widths (sym (sum_by-replicate width_of n range)) ∙ sym (sum_by-append width_of cells (replicate n range)) ∙ ap (sum_by width_of) (sym em);
     }
+
+-- the widths of cells, and of those that are added, have room in 64 bits
+pub widths-room : (cells : List Span) (total n : ℕ) (range : Span) → total ≡ sum_by width_of cells → AreBounded cells → IsBounded 500000000 range → length cells + n ≤ 2000000 → total + n * width_of range ≤ 2000000000000000
+widths-room cells total n range e all inside few =
+    omega (arith, e, widths-small cells all, few, mul-le-mul_left n (width-small range inside))

@@ -10,9 +10,9 @@ use Rattle.tube_store.specs.State.{IsStore}
 use Rattle.tube_store.specs.Kept.{IsKept}
 use Rattle.tube_store.proofs.Ring.{ring-among, no-ring}
 
-pub IsStore-kept : (shape : Shape) (cells : List Span) (marks : List Bool) (touched : List ℕ) (capacity : ℕ) (emptied : Bool) → shape.cells ≡ length cells → IsKept shape cells marks touched capacity
+pub IsStore-kept : (shape : Shape) (cells : List Span) (marks : List Bool) (touched : List ℕ) (capacity total : ℕ) (emptied : Bool) → shape.cells ≡ length cells → IsKept shape cells marks touched capacity total
     → IsStore (record { shape = shape; box = cond emptied None (Some cells); touched = touched })
-IsStore-kept shape cells marks touched capacity emptied e kept = at emptied
+IsStore-kept shape cells marks touched capacity total emptied e kept = at emptied
   where
     among : All (λ (k : ℕ). k < shape.cells) touched
     among = λ k d l. omega (arith, ring-among marks touched capacity kept.ring k d l, kept.beside, e)
@@ -22,13 +22,14 @@ IsStore-kept shape cells marks touched capacity emptied e kept = at emptied
     at false = record { shape = kept.layout; box = (kept.proper, sym e); bounded = kept.bounded; among = among; distinct = kept.ring.distinct }
 
 -- a store with no cells
-pub no-cells-kept : (grid : List ℕ) (capacity : ℕ) → IsGrid grid → IsKept (no_shape grid) [] [] [] capacity
+pub no-cells-kept : (grid : List ℕ) (capacity : ℕ) → IsGrid grid → IsKept (no_shape grid) [] [] [] capacity 0
 no-cells-kept grid capacity is = record {
   layout = record { grid = is; few = omega arith; names = omega arith; signals = λ k d l. absurd (omega (arith, l)); vars = λ k d l. absurd (omega (arith, l)) };
   proper = λ k. omega (arith, ints);
   bounded = λ k. record { low = omega (arith, ints); high = omega (arith, ints) };
   beside = refl;
   ring = no-ring capacity;
+  widths = refl;
 }
 
 -- the cell of a tick is among the cells

@@ -8,6 +8,7 @@
 ghost use Rattle.std.specs.Prelude.{◌≡◌, ◌≢◌, ℕ, ◌+◌, ◌*◌, ◌<◌, ◌≤◌, ◌^◌, ◌++◌, [], ◌∷◌, ◌↔◌, IsTrue, IsFalse, MatchOption, IsSome, IfSome, IsNone, OnOk, OnErr, IfOk, IsErrOf, None, Some, length, set, slice_index, sum_by, replicate, false, ◌-◌};
 ghost use Rattle.std.specs.Vec.{vec_capacity};
 ghost use Rattle.std.specs.VecDeque.{deque_capacity};
+ghost use Rattle.tube_spec.specs.Limits.{greatest_bound, most_cells};
 ghost use Rattle.tube_spec.specs.Span.{IsProper, IsWithin, IsBounded, meet_of, width_of};
 ghost use Rattle.tube_spec.specs.Grid.{last_tick};
 ghost use Rattle.tube_spec.specs.Shape.{gate_cell, envelope_cell, slice_width};
@@ -28,10 +29,10 @@ use std::collections::VecDeque;
 use std::marker::Model;
 
 /// The greatest absolute value of a bound of a declared range, and so of every cell.
-pub const M: i64 = 500_000_000;
+pub const GREATEST_BOUND: i64 = 500_000_000;
 
 /// The most cells that a store may have.
-pub const MAX_CELLS: usize = 2_000_000;
+pub const MOST_CELLS: usize = 2_000_000;
 
 /// The number of a cell, from 0 in order of addition.
 #[derive(Clone, Copy, Debug, PartialEq, Eq)]
@@ -57,7 +58,7 @@ pub enum Cut {
 /// Why cells could not be added.
 #[derive(Clone, Copy, Debug, PartialEq, Eq)]
 pub enum StoreFault {
-    /// There would be more than `MAX_CELLS` cells.
+    /// There would be more than `MOST_CELLS` cells.
     CellsFull,
     /// Memory ran out.
     NoMemory,
@@ -82,6 +83,7 @@ pub struct Store {
     cells: Vec<Interval>,
     marks: Vec<bool>,
     ring: VecDeque<u32>,
+    total: u64,
     emptied: bool,
 }
 
@@ -100,7 +102,7 @@ impl Model for Store {
       touched = s.ring.items;
     } };
 
-    ghost invariant = { λ s. IsKept (record { grid = s.grid; signals = s.firsts.items; vars = s.places.items; cells = length s.cells.items }) s.cells.items s.marks.items s.ring.items (deque_capacity s.ring) };
+    ghost invariant = { λ s. IsKept (record { grid = s.grid; signals = s.firsts.items; vars = s.places.items; cells = length s.cells.items }) s.cells.items s.marks.items s.ring.items (deque_capacity s.ring) s.total };
 }
 
 impl Store {
@@ -116,6 +118,7 @@ impl Store {
             cells: Vec::new(alloc),
             marks: Vec::new(alloc),
             ring: VecDeque::new(alloc),
+            total: 0,
             emptied: false,
         }
     }
@@ -130,44 +133,46 @@ impl Store {
     /// Adds a signal: for a grid of `m` slices `2 * m + 1` cells, which hold the declared range, in
     /// the order gate 0, envelope 0, gate 1, up to gate `m`.
     pub fn add_signal(&mut self, range: Interval) -> Result<SignalId, StoreFault>
-        requires range { IsBounded 500000000 range }
+        requires range { IsBounded greatest_bound range }
         ensures id { IfOk result (λ signal. signal.0 ≡ length self.old.shape.signals) }
         ensures ok { OnOk result (self.new ≡ state_with self.old (SignalIn range)) }
-        ensures full { IsErrOf result StoreFault.CellsFull ↔ (2000000 < self.old.shape.cells + (2 * length self.old.shape.grid - 1)) }
+        ensures full { IsErrOf result StoreFault.CellsFull ↔ (most_cells < self.old.shape.cells + (2 * length self.old.shape.grid - 1)) }
         ensures err { OnErr result (self.new ≡ self.old) }
     {
         let _proper = range.known();
         let first = self.cells.len();
         let id = self.firsts.len();
         let last = first + (2 * self.grid.slices() as usize + 1);
-        if last > MAX_CELLS {
+        if last > MOST_CELLS {
             return Err(StoreFault::CellsFull);
         }
         self.ring.reserve(last)?;
         self.firsts.reserve(1)?;
         add_cells(&mut self.cells, &mut self.marks, last, range)?;
         self.firsts.push_reserved(first as u32);
+        self.total += (last - first) as u64 * range.width();
         Ok(SignalId(id as u32))
     }
 
     /// Adds a variable: one cell, which holds the declared range.
     pub fn add_var(&mut self, range: Interval) -> Result<VarId, StoreFault>
-        requires range { IsBounded 500000000 range }
+        requires range { IsBounded greatest_bound range }
         ensures id { IfOk result (λ var. var.0 ≡ length self.old.shape.vars) }
         ensures ok { OnOk result (self.new ≡ state_with self.old (VariableIn range)) }
-        ensures full { IsErrOf result StoreFault.CellsFull ↔ (2000000 < self.old.shape.cells + 1) }
+        ensures full { IsErrOf result StoreFault.CellsFull ↔ (most_cells < self.old.shape.cells + 1) }
         ensures err { OnErr result (self.new ≡ self.old) }
     {
         let _proper = range.known();
         let place = self.cells.len();
         let id = self.places.len();
-        if place >= MAX_CELLS {
+        if place >= MOST_CELLS {
             return Err(StoreFault::CellsFull);
         }
         self.ring.reserve(place + 1)?;
         self.places.reserve(1)?;
         add_cells(&mut self.cells, &mut self.marks, place + 1, range)?;
         self.places.push_reserved(place as u32);
+        self.total += range.width();
         Ok(VarId(id as u32))
     }
 
@@ -241,7 +246,7 @@ impl Store {
         requires filled { IsSome self.now.box }
         ensures value { IfSome self.now.box (λ xs. result ≡ cell_at xs c.0) }
         ensures proper { IsProper result }
-        ensures bounded { IsBounded 500000000 result }
+        ensures bounded { IsBounded greatest_bound result }
     {
         self.cells[c.0 as usize]
     }
@@ -266,6 +271,7 @@ impl Store {
                 Cut::Empty
             }
             Some(less) => {
+                self.total -= held.width() - less.width();
                 self.cells[place] = less;
                 touch(&mut self.marks, &mut self.ring, c.0);
                 Cut::Narrowed
@@ -281,7 +287,7 @@ impl Store {
         requires filled { IsSome self.now.box }
         ensures value { IfSome self.now.box (λ xs. result ≡ at_tick self.now.shape xs signal.0 tick) }
         ensures proper { IsProper result }
-        ensures bounded { IsBounded 500000000 result }
+        ensures bounded { IsBounded greatest_bound result }
     {
         let first = self.firsts[signal.0 as usize];
         self.get(CellId(first + self.grid.place_of(tick)))
@@ -295,7 +301,7 @@ impl Store {
         requires filled { IsSome self.now.box }
         ensures value { IfSome self.now.box (λ xs. result ≡ over_ticks self.now.shape xs signal.0 first last) }
         ensures proper { IsProper result }
-        ensures bounded { IsBounded 500000000 result }
+        ensures bounded { IsBounded greatest_bound result }
     {
         let base = self.firsts[signal.0 as usize];
         let hull = hull_between(&self.cells, &self.grid, base, first, last);
@@ -313,15 +319,12 @@ impl Store {
         Some(CellId(cell))
     }
 
-    /// The widths of all cells, added up, and 0 for the empty box.
+    /// The widths of all cells, added up, and 0 for the empty box. It is one look: the sum is kept as
+    /// cells are added and narrowed.
     pub fn measure(&self) -> u128
         ensures { result ≡ measure_of self.now.box }
     {
-        if self.emptied {
-            0
-        } else {
-            total_width(&self.cells)
-        }
+        if self.emptied { 0 } else { self.total as u128 }
     }
 
     /// The number of slices.
@@ -403,7 +406,7 @@ fn meets_tick(grid: &Grid, place: u32) -> bool
 /// The hull of a signal's cells at the ticks from `first` to `last`, where its first cell is `base`.
 /// It goes from cell to cell, past the envelopes that no tick is at.
 fn hull_between(cells: &[Interval], grid: &Grid, base: u32, first: u32, last: u32) -> Interval
-    requires few { length cells.now ≤ 2000000 }
+    requires few { length cells.now ≤ most_cells }
     requires among { base + 2 * length grid.now ≤ length cells.now + 1 }
     requires order { first ≤ last }
     requires tick { last ≤ last_tick grid.now }
@@ -419,18 +422,6 @@ fn hull_between(cells: &[Interval], grid: &Grid, base: u32, first: u32, last: u3
         }
     }
     hull
-}
-
-/// The widths of the intervals, added up.
-fn total_width(cells: &[Interval]) -> u128
-    requires { length cells.now ≤ 2000000 }
-    ensures { result ≡ sum_by width_of cells.now }
-{
-    let mut total: u128 = 0;
-    for cell in cells {
-        total += cell.width() as u128;
-    }
-    total
 }
 
 #[cfg(test)]

@@ -1,16 +1,6 @@
-use Rattle.std.proofs.Common.{◌<◌, arith}
-use Rattle.log_spelling.proofs.Bounds.{below_17, below_18}
+use Rattle.std.proofs.Common.{length, arith}
+use Rattle.log_spelling.proofs.Bounds.{some_below_18}
 use Rattle.log_spelling.proofs.number.magnitude_of.Goals as goal
 
-pub overflow_mul-n : goal.overflow_mul-n
-overflow_mul-n c =
-    let small : c.loop-d.n < 100000000000000000 = below_17 c.loop-d.n c.loop-d.d-index c.loop-d.invariant.small (omega arith) in
-    omega arith
-
-pub overflow_add-n : goal.overflow_add-n
-overflow_add-n c =
-    let small : c.loop-d.n < 100000000000000000 = below_17 c.loop-d.n c.loop-d.d-index c.loop-d.invariant.small (omega arith) in
-    omega (arith, c.type_inv.digits c.loop-d.d-index)
-
 pub returns-clause-small : goal.returns-clause-small
-returns-clause-small c = below_18 c.loop-d.n c.loop-d.d-index c.loop-d.invariant.small (omega arith)
+returns-clause-small c = some_below_18 c.digits_value.result (length c.args.digits.now) (omega arith) c.digits_value.ensures.small

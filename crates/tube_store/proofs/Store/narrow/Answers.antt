@@ -1,9 +1,9 @@
-use Rattle.std.proofs.Common.{◌<◌, ℕ, ◌∙◌, sym, subst, refl, length, length-set}
+use Rattle.std.proofs.Common.{◌<◌, ◌-◌, ℕ, ◌∙◌, sym, ap₂, subst, refl, length, length-set}
 use Rattle.tube_spec.specs.Shape.{IsShape}
 use Rattle.tube_spec.specs.Span.{IsProper}
 use Rattle.tube_spec.proofs.Boxes.{IsBox-set}
 use Rattle.tube_store.specs.State.{State}
-use Rattle.tube_store.proofs.Cells.{narrowed-bounded}
+use Rattle.tube_store.proofs.Cells.{narrowed-bounded, narrowed-widths}
 use Rattle.tube_store.proofs.Store.narrow.Goals as goal
 
 pub invariant_of-self-in-Some : goal.invariant_of-self-in-Some
@@ -19,4 +19,5 @@ invariant_of-self-in-Some c =
       bounded = narrowed-bounded xs c.args.c.0 c.index-held.result.now c.args.to c.in-Some.less inside c.index-held.ensures c.in-Some.ensures.value c.self.invariant.bounded;
       beside = c.touch.ensures.marks ∙ c.self.invariant.beside ∙ sym len;
       ring = c.touch.ensures.touched;
+      widths = ap₂ (λ (h l : ℕ). s.total - (h - l)) c.width.ensures c.width-in-Some.ensures ∙ (narrowed-widths xs c.args.c.0 c.index-held.result.now c.args.to c.in-Some.less s.total inside c.index-held.ensures c.in-Some.ensures.value c.self.invariant.widths).widths;
     }

@@ -19,6 +19,7 @@ invariant_of-self-2 c =
       beside = length-set s.marks.items c.in_ok-cell.cell false ∙ kept.beside;
       ring = rw (c.pop_front.ensures.capacity)
           (ring-pop s.marks.items c.pop_front.new.self.items (deque_capacity s.ring) c.in_ok-cell.cell (subst (λ (l : List ℕ). AreTouched s.marks.items l (deque_capacity s.ring)) c.in_ok-cell.ensures.items kept.ring));
+      widths = kept.widths;
     }
 
 pub returns-clause-named : goal.returns-clause-named

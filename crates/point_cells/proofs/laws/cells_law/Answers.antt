@@ -1,8 +1,0 @@
-use Rattle.point_cells.proofs.laws.cells_law.Goals as goal
-use Rattle.point_cells.specs.PointLaws.{cells-in, cells-same}
-
-pub returns-clause-in_store : goal.returns-clause-in_store
-returns-clause-in_store c = cells-in
-
-pub returns-clause-same : goal.returns-clause-same
-returns-clause-same c = cells-same

@@ -1,0 +1,14 @@
+//! The slices near a range are those that share a tick with it.
+
+ghost use Rattle.std.specs.Prelude.{◌≡◌, ℕ, ◌+◌, ◌*◌, ◌<◌, ◌≤◌, ◌⊎◌, ◌↔◌, List, Contains, length};
+ghost use Rattle.tube_spec.specs.Span.{Span};
+ghost use Rattle.tube_spec.specs.Grid.{IsGrid};
+ghost use Rattle.slice_gates.specs.Near.{SharesTick, near_of, gates_of, places_of, IsOneOf};
+
+/// The slices near a declared range are exactly those that share a tick with it. Their gates, and the places of their cells among those of a signal,
+/// are exactly those of these slices: slice `i` has the gates `i` and `i + 1`, and the places from `2 i` to `2 i + 2`.
+pub fn near_law()
+    ensures slices { (grid : List ℕ) → IsGrid grid → (declared : Span) (slice : ℕ) → IsOneOf (near_of grid declared) slice ↔ ((slice + 1 < length grid) × SharesTick grid declared slice) }
+    ensures gates { (grid : List ℕ) → IsGrid grid → (declared : Span) (gate : ℕ) → Contains (gates_of (near_of grid declared)) gate ↔ ((slice : ℕ) × IsOneOf (near_of grid declared) slice × ((gate ≡ slice) ⊎ (gate ≡ slice + 1))) }
+    ensures places { (grid : List ℕ) → IsGrid grid → (declared : Span) (place : ℕ) → Contains (places_of (near_of grid declared)) place ↔ ((slice : ℕ) × IsOneOf (near_of grid declared) slice × (2 * slice ≤ place) × (place ≤ 2 * (slice + 1))) }
+{}

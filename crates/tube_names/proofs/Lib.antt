@@ -1,0 +1,3 @@
+pub mod Uses
+pub mod Numbers
+pub mod PointCells
