@@ -1,6 +1,6 @@
 -- The invariant of a net: what additions and firings keep.
-use Rattle.std.proofs.Common.{◌≡◌, cond, ℕ, zero, suc, ◌+◌, ◌<◌, ◌≤◌, ◌⊎◌, inl, inr, Option, Some, None, List, [], ◌∷◌, ◌++◌, Bool, true, false, IsNone, IfSome, refl, sym, subst, ap, ap₂, ◌∙◌, length, set, replicate, get_or, All, Contains, arith, slice_get, slice_index, sum_by, pos}
-use Rattle.std.proofs.lemmas.List.{length-set, length-replicate, length_push, get_or_append_left}
+use Rattle.std.proofs.Common.{◌≡◌, ℕ, zero, suc, ◌+◌, ◌<◌, ◌≤◌, ◌⊎◌, inl, inr, Option, Some, None, List, [], ◌∷◌, ◌++◌, Bool, true, false, IfSome, refl, sym, subst, ap, ap₂, ◌∙◌, length, map, set, get_or, All, Contains, arith, slice_get, sum_by, pos}
+use Rattle.std.proofs.lemmas.List.{length-set, length_push, length-map, get_or_append_left, map-append}
 use Rattle.std.proofs.lemmas.List.Elements.{All-push, All-head, All-tail}
 use Rattle.std.proofs.lemmas.List.Sums.{sum_by-cons, sum_by_push}
 use Rattle.tube_spec.specs.Span.{Span, point}
@@ -12,13 +12,11 @@ use Rattle.tube_spec.specs.Fixpoint.{IsFixpoint}
 use Rattle.tube_spec.specs.Owner.{Owner, with_owner, declared_cells}
 use Rattle.tube_spec.proofs.Hulls.{owner-extends}
 use Rattle.tube_store.specs.State.{State, IsStore, state_with}
-use Rattle.ctc_core.specs.Answers.{Revises}
-use Rattle.ctc_core.specs.declared.Revised.{Revised}
-use Rattle.ctc_core.specs.declared.Revised.TheVariants.{Same, Narrowed, Empty}
-use Rattle.ctc_network.specs.Nets.{AreAtRest, IsKept, readers_of, entries_of, reads_cell}
-use Rattle.ctc_network.specs.Rosters.{Members}
-use Rattle.ctc_network.specs.Settling.{waiting_after}
-use Rattle.ctc_network.proofs.Runs.{same-fixpoint, get-all}
+use Rattle.cell_readers.specs.Entries.{Table, AreReaders}
+use Rattle.firing_cost.specs.Waking.{AreAtRest}
+use Rattle.ctc_network.specs.Nets.{IsNet, IsDrained, IsSettlable, IsTableOf, IsKept, entries_of}
+use Rattle.ctc_network.proofs.Runs.{get-all}
+use Rattle.ctc_network.proofs.Waking.{sum-scopes}
 
 -- the place k of a list with one place set
 set-cases : (ws : List Bool) (i k : ℕ) → slice_get (set ws i false) k ≡ Some false → (k ≡ i) ⊎ (slice_get ws k ≡ Some false)
@@ -27,12 +25,6 @@ set-cases (w ∷ ws) zero zero e = inl refl
 set-cases (w ∷ ws) zero (suc k) e = inr e
 set-cases (w ∷ ws) (suc i) zero e = inr e
 set-cases (w ∷ ws) (suc i) (suc k) e = elim (set-cases ws i k e) [ inl same ↦ inl (ap suc same) | inr old ↦ inr old ]
-
--- in a list of marks that all wait nobody rests
-all-wait : (n k : ℕ) → slice_get (replicate n true) k ≡ Some false → ⊥
-all-wait zero k e = cc
-all-wait (suc n) zero e = cc
-all-wait (suc n) (suc k) e = all-wait n k e
 
 -- who rests among one contractor more, which waits, rested before
 rests-before : {C : Type 0} (cs : List C) (ws : List Bool) (c d : C) (k : ℕ) → length ws ≡ length cs → slice_get (cs ++ c ∷ []) k ≡ Some d → slice_get (ws ++ true ∷ []) k ≡ Some false
@@ -56,92 +48,70 @@ rest-set {C} projections cs ws box i c rest at fix k d e f =
       | inr old ↦ rest k d e old
     ]
 
--- there are as many marks after a firing
-pub waiting-length : (answer : Revised) (ws : List Bool) (k : ℕ) → length (waiting_after answer ws k) ≡ length ws
-waiting-length Same ws k = length-set ws k false
-waiting-length Narrowed ws k = length-replicate (length ws) true
-waiting-length Empty ws k = refl
-
-if-none : {X : Type 0} (P : X → Type 0) (b : Option X) → IsNone b → IfSome b P
-if-none P None e = tt
-if-none P (Some x) e = absurd (cc)
-
 module _ (C : Type 0) (projections : C → Shape → List Projection) (scope : C → Shape → List ℕ) (fits : C → Shape → Option (List Span) → Type 0)
     (fits_below : (c : C) (s : Shape) (a b : Option (List Span)) → IsBelowBox a b → fits c s b → fits c s a) where
-  module _ (old new : State) (members : Members C) (counts last : List ℕ) (entries k : ℕ) (c : C) (kept : IsKept projections scope fits old members counts last entries)
-      (at : slice_get members.contractors k ≡ Some c) where
-    -- with other marks, and a store that lies below
-    with-marks : (ws : List Bool) → IsStore new → new.shape ≡ old.shape → IsBelowBox new.box old.box → length ws ≡ length members.waiting
-        → AreAtRest (λ x. projections x new.shape) members.contractors ws new.box
-        → IsKept projections scope fits new (record members { waiting = ws }) counts last entries
-    with-marks ws store shape below len rest = record {
-      net = record {
-        store = store;
-        few = kept.net.few;
-        beside = len ∙ kept.net.beside;
-        fit = λ j d l. subst (λ (s : Shape). fits (get_or members.contractors j d) s new.box) (sym shape) (fits_below (get_or members.contractors j d) old.shape new.box old.box below (kept.net.fit j d l));
-        entries = subst (λ (s : Shape). entries_of scope s members.contractors ≤ 20000000) (sym shape) kept.net.entries;
-        rest = rest;
-      };
-      readers = λ j. subst (λ (s : Shape). slice_index counts j ≡ readers_of scope s members.contractors j) (sym shape) (kept.readers j);
-      numbers = kept.numbers;
-      sum = subst (λ (s : Shape). entries ≡ entries_of scope s members.contractors) (sym shape) kept.sum;
-    }
-
-    rest_at : (answer : Revised) → Revises (projections c old.shape) old new answer → AreAtRest (λ x. projections x new.shape) members.contractors (waiting_after answer members.waiting k) new.box
-    rest_at Same r =
-        let same : new ≡ old = r.revised.same refl in
-        subst (λ (s : State). AreAtRest (λ x. projections x s.shape) members.contractors (set members.waiting k false) s.box) (sym same)
-        (rest-set (λ x. projections x old.shape) members.contractors members.waiting old.box k c kept.net.rest at
-        (subst (λ (s : State). IfSome s.box (IsFixpoint (projections c old.shape))) same (same-fixpoint (projections c old.shape) old new r)))
-    rest_at Narrowed r = λ j d e f. absurd (all-wait (length members.waiting) j f)
-    rest_at Empty r = λ j d e f. if-none (IsFixpoint (projections d new.shape)) new.box r.says
-
-    -- after a firing of the contractor with the number k
-    pub kept-fired : (answer : Revised) → Revises (projections c old.shape) old new answer
-        → IsKept projections scope fits new (record members { waiting = waiting_after answer members.waiting k }) counts last entries
-    kept-fired answer r = with-marks (waiting_after answer members.waiting k) r.after r.revised.shape r.revised.below (waiting-length answer members.waiting k) (rest_at answer r)
+  -- with other marks, and a store that lies below
+  pub with-marks : (old new : State) (cs : List C) (ws vs : List Bool) → IsNet projections scope fits (record { store = old; contractors = cs; waiting = ws })
+      → IsStore new → new.shape ≡ old.shape → IsBelowBox new.box old.box → length vs ≡ length ws → AreAtRest (λ x. projections x new.shape) cs vs new.box
+      → IsNet projections scope fits (record { store = new; contractors = cs; waiting = vs })
+  with-marks old new cs ws vs net store shape below len rest = record {
+    store = store;
+    few = net.few;
+    beside = len ∙ net.beside;
+    fit = λ j d l. subst (λ (s : Shape). fits (get_or cs j d) s new.box) (sym shape) (fits_below (get_or cs j d) old.shape new.box old.box below (net.fit j d l));
+    entries = subst (λ (s : Shape). entries_of scope s cs ≤ 20000000) (sym shape) net.entries;
+    rest = rest;
+  }
 
   -- a contractor that leaves the box rests
-  pub kept-rested : (store : State) (members : Members C) (counts last : List ℕ) (entries k : ℕ) (c : C) → IsKept projections scope fits store members counts last entries
-      → slice_get members.contractors k ≡ Some c → IfSome store.box (IsFixpoint (projections c store.shape))
-      → IsKept projections scope fits store (record members { waiting = set members.waiting k false }) counts last entries
-  kept-rested store members counts last entries k c kept at fix = record {
-    net = record {
-      store = kept.net.store;
-      few = kept.net.few;
-      beside = length-set members.waiting k false ∙ kept.net.beside;
-      fit = kept.net.fit;
-      entries = kept.net.entries;
-      rest = rest-set (λ x. projections x store.shape) members.contractors members.waiting store.box k c kept.net.rest at fix;
+  pub kept-rested : (store : State) (cs : List C) (ws : List Bool) (table : Table) (entries k : ℕ) (c : C) → IsKept projections scope fits (record { store = store; contractors = cs; waiting = ws }) table entries
+      → slice_get cs k ≡ Some c → IfSome store.box (IsFixpoint (projections c store.shape))
+      → IsKept projections scope fits (record { store = store; contractors = cs; waiting = set ws k false }) table entries
+  kept-rested store cs ws table entries k c kept at fix = record {
+    state = record {
+      net = record {
+        store = kept.state.net.store;
+        few = kept.state.net.few;
+        beside = length-set ws k false ∙ kept.state.net.beside;
+        fit = kept.state.net.fit;
+        entries = kept.state.net.entries;
+        rest = rest-set (λ x. projections x store.shape) cs ws store.box k c kept.state.net.rest at fix;
+      };
+      drained = kept.state.drained;
     };
-    readers = kept.readers;
-    numbers = kept.numbers;
-    sum = kept.sum;
+    table_of = kept.table_of;
   }
 
   -- with one contractor more, which waits
-  pub kept-added : (store : State) (members : Members C) (counts last counts' last' : List ℕ) (entries entries' : ℕ) (c : C) → IsKept projections scope fits store members counts last entries
-      → length members.contractors < 4000000000 → fits c store.shape store.box → entries' ≤ 20000000 → entries' ≡ entries + length (scope c store.shape)
-      → ((k : ℕ) → slice_index counts' k ≡ slice_index counts k + cond (reads_cell (scope c store.shape) k) 1 0)
-      → ((k : ℕ) → slice_index last' k ≤ length members.contractors + 1)
-      → IsKept projections scope fits store (record { contractors = members.contractors ++ c ∷ []; waiting = members.waiting ++ true ∷ [] }) counts' last' entries'
-  kept-added store members counts last counts' last' entries entries' c kept few fit room sum counted numbers = record {
-    net = record {
-      store = kept.net.store;
-      few = omega (arith, few, length_push members.contractors c);
-      beside = omega (arith, kept.net.beside, length_push members.contractors c, length_push members.waiting true);
-      fit = All-push (λ x. fits x store.shape store.box) members.contractors c kept.net.fit fit;
-      entries = subst (λ n. n ≤ 20000000) all room;
-      rest = λ k d e f. let before = rests-before members.contractors members.waiting c d k kept.net.beside e f in kept.net.rest k d before.0 before.1;
+  pub kept-added : (store : State) (cs : List C) (ws : List Bool) (table table' : Table) (entries entries' : ℕ) (c : C) → IsKept projections scope fits (record { store = store; contractors = cs; waiting = ws }) table entries
+      → length cs < 4000000000 → fits c store.shape store.box → entries' ≤ 20000000 → entries' ≡ entries + length (scope c store.shape)
+      → AreReaders (map (λ x. scope x store.shape) cs ++ scope c store.shape ∷ []) table'.readers → table'.contractors ≡ table.contractors + 1 → table'.entries ≤ table.entries + length (scope c store.shape)
+      → IsKept projections scope fits (record { store = store; contractors = cs ++ c ∷ []; waiting = ws ++ true ∷ [] }) table' entries'
+  kept-added store cs ws table table' entries entries' c kept few fit room sum readers count more = record {
+    state = record {
+      net = record {
+        store = kept.state.net.store;
+        few = omega (arith, few, length_push cs c);
+        beside = omega (arith, kept.state.net.beside, length_push cs c, length_push ws true);
+        fit = All-push (λ x. fits x store.shape store.box) cs c kept.state.net.fit fit;
+        entries = subst (λ n. n ≤ 20000000) all room;
+        rest = λ k d e f. let before = rests-before cs ws c d k kept.state.net.beside e f in kept.state.net.rest k d before.0 before.1;
+      };
+      drained = kept.state.drained;
     };
-    readers = λ k. counted k ∙ ap (λ n. n + cond (reads_cell (scope c store.shape) k) 1 0) (kept.readers k) ∙ sym (sum_by_push (λ x. cond (reads_cell (scope x store.shape) k) 1 0) members.contractors c);
-    numbers = λ k. subst (λ n. slice_index last' k ≤ n) (sym (length_push members.contractors c)) (numbers k);
-    sum = all;
+    table_of = record {
+      readers = subst (λ (scopes : List (List ℕ)). AreReaders scopes table'.readers) (sym scopes) readers;
+      contractors = omega (arith, count, kept.table_of.contractors, length_push cs c, length-map cs (λ x. scope x store.shape), length-map (cs ++ c ∷ []) (λ x. scope x store.shape));
+      few = omega (arith, more, kept.table_of.few, sum);
+      sum = all ∙ sym (sum-scopes (λ x. scope x store.shape) (cs ++ c ∷ []));
+    };
   }
     where
-      all : entries' ≡ entries_of scope store.shape (members.contractors ++ c ∷ [])
-      all = sum ∙ ap (λ n. n + length (scope c store.shape)) kept.sum ∙ sym (sum_by_push (λ x. length (scope x store.shape)) members.contractors c)
+      scopes : map (λ x. scope x store.shape) (cs ++ c ∷ []) ≡ map (λ x. scope x store.shape) cs ++ scope c store.shape ∷ []
+      scopes = map-append (λ x. scope x store.shape) cs (c ∷ [])
+
+      all : entries' ≡ entries_of scope store.shape (cs ++ c ∷ [])
+      all = sum ∙ ap (λ n. n + length (scope c store.shape)) (kept.table_of.sum ∙ sum-scopes (λ x. scope x store.shape) cs) ∙ sym (sum_by_push (λ x. length (scope x store.shape)) cs c)
 
   -- Further cells.
   module _ (reads_only : (c : C) (s : Shape) → All (ReadsOnly (λ xs. fits c s (Some xs)) (scope c s)) (projections c s))
@@ -169,30 +139,32 @@ module _ (C : Type 0) (projections : C → Shape → List Projection) (scope : C
         same : (k : ℕ) → Contains (scope c s) k → cell_at xs k ≡ cell_at (xs ++ more) k
         same k m = first k (subst (λ (j : ℕ). j < s.cells) m.2 ((in_store c s (Some xs) shape fit).0 m.0 k m.1))
 
-    same-sum : (f : List ℕ → ℕ) (s t : Shape) (b : Option (List Span)) (cs : List C) → Extends s t → All (λ c. fits c s b) cs → sum_by (λ c. f (scope c t)) cs ≡ sum_by (λ c. f (scope c s)) cs
-    same-sum f s t b [] grows fit = refl
-    same-sum f s t b (c ∷ cs) grows fit =
-        sum_by-cons (λ x. f (scope x t)) c cs
-        ∙ ap₂ (λ m n. m + n) (ap f (same_scope c s t b grows (All-head (λ x. fits x s b) c cs fit))) (same-sum f s t b cs grows (All-tail (λ x. fits x s b) c cs fit))
-        ∙ sym (sum_by-cons (λ x. f (scope x s)) c cs)
+    same-scopes : (s t : Shape) (b : Option (List Span)) (cs : List C) → Extends s t → All (λ c. fits c s b) cs → map (λ c. scope c t) cs ≡ map (λ c. scope c s) cs
+    same-scopes s t b [] grows fit = refl
+    same-scopes s t b (c ∷ cs) grows fit =
+        ap₂ (λ (x : List ℕ) (xs : List (List ℕ)). x ∷ xs) (same_scope c s t b grows (All-head (λ x. fits x s b) c cs fit)) (same-scopes s t b cs grows (All-tail (λ x. fits x s b) c cs fit))
 
     -- with the cells of one owner more
-    pub kept-grown : (old : State) (o : Owner) (members : Members C) (counts last : List ℕ) (entries : ℕ) → IsKept projections scope fits old members counts last entries
-        → IsStore (state_with old o) → IsKept projections scope fits (state_with old o) members counts last entries
-    kept-grown old o members counts last entries kept store = record {
-      net = record {
-        store = store;
-        few = kept.net.few;
-        beside = kept.net.beside;
-        fit = λ k d l. fits_more (get_or members.contractors k d) old.shape t old.box more grows (kept.net.fit k d l);
-        entries = subst (λ n. n ≤ 20000000) (sym (same-sum length old.shape t old.box members.contractors grows kept.net.fit)) kept.net.entries;
-        rest = λ k c e f. rest_at c old.box (get-all (λ x. fits x old.shape old.box) members.contractors k c e kept.net.fit) kept.net.store.box store.box (kept.net.rest k c e f);
+    pub kept-grown : (old : State) (o : Owner) (cs : List C) (ws : List Bool) (table : Table) (entries : ℕ) → IsKept projections scope fits (record { store = old; contractors = cs; waiting = ws }) table entries
+        → IsStore (state_with old o) → IsKept projections scope fits (record { store = state_with old o; contractors = cs; waiting = ws }) table entries
+    kept-grown old o cs ws table entries kept store = record {
+      state = record {
+        net = record {
+          store = store;
+          few = net.few;
+          beside = net.beside;
+          fit = λ k d l. fits_more (get_or cs k d) old.shape t old.box more grows (net.fit k d l);
+          entries = subst (λ n. n ≤ 20000000) (sym same-sum) net.entries;
+          rest = λ k c e f. rest_at c old.box (get-all (λ x. fits x old.shape old.box) cs k c e net.fit) net.store.box store.box (net.rest k c e f);
+        };
+        drained = drained_at old.box kept.state.drained;
       };
-      readers = λ k. kept.readers k ∙ sym (same-sum (λ cells. cond (reads_cell cells k) 1 0) old.shape t old.box members.contractors grows kept.net.fit);
-      numbers = kept.numbers;
-      sum = kept.sum ∙ sym (same-sum length old.shape t old.box members.contractors grows kept.net.fit);
+      table_of = subst (λ (scopes : List (List ℕ)). IsTableOf scopes table entries) (sym same) kept.table_of;
     }
       where
+        net : IsNet projections scope fits (record { store = old; contractors = cs; waiting = ws })
+        net = kept.state.net
+
         t : Shape
         t = with_owner old.shape o
 
@@ -202,7 +174,17 @@ module _ (C : Type 0) (projections : C → Shape → List Projection) (scope : C
         grows : Extends old.shape t
         grows = owner-extends o old.shape
 
+        same : map (λ c. scope c t) cs ≡ map (λ c. scope c old.shape) cs
+        same = same-scopes old.shape t old.box cs grows net.fit
+
+        same-sum : entries_of scope t cs ≡ entries_of scope old.shape cs
+        same-sum = sym (sum-scopes (λ c. scope c t) cs) ∙ ap (λ (scopes : List (List ℕ)). sum_by (λ scope. length scope) scopes) same ∙ sum-scopes (λ c. scope c old.shape) cs
+
+        drained_at : (b : Option (List Span)) → IfSome b (λ xs. old.touched ≡ []) → IfSome (box_more b more) (λ xs. old.touched ≡ [])
+        drained_at None d = tt
+        drained_at (Some xs) d = d
+
         rest_at : (c : C) (b : Option (List Span)) → fits c old.shape b → IfSome b (λ xs. IsBox xs × (length xs ≡ old.shape.cells)) → IfSome (box_more b more) (λ xs. IsBox xs × (length xs ≡ t.cells))
             → IfSome b (IsFixpoint (projections c old.shape)) → IfSome (box_more b more) (IsFixpoint (projections c t))
         rest_at c None fit box boxes fix = tt
-        rest_at c (Some xs) fit box boxes fix = more-fixpoint c old.shape t xs more kept.net.store.shape grows box.1 fit boxes.0 fix
+        rest_at c (Some xs) fit box boxes fix = more-fixpoint c old.shape t xs more net.store.shape grows box.1 fit boxes.0 fix

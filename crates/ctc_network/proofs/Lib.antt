@@ -1,6 +1,8 @@
-pub mod Counting
+pub mod Ends
+pub mod Events
+pub mod Firing
 pub mod Keeping
-pub mod Numbers
-pub mod Rounds
+pub mod Replaying
 pub mod Runs
 pub mod Schedules
+pub mod Waking

@@ -1,5 +1,5 @@
 pub mod Nets
-pub mod Rosters
+pub mod Noting
 pub mod Schedule
 pub mod Sections
 pub mod Settling

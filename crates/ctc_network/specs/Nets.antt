@@ -1,12 +1,12 @@
 -- What contracts see of a net.
-use Rattle.std.specs.Prelude.{◌≡◌, ℕ, ◌≤◌, Option, Some, List, [], Bool, false, nat_eq, length, IfSome, All, sum_by, count_by, slice_get, slice_index}
-use Rattle.std.specs.List.{list_any}
+use Rattle.std.specs.Prelude.{◌≡◌, ℕ, ◌≤◌, Option, List, [], Bool, map, length, All, IfSome, sum_by, count_by}
+use Rattle.tube_spec.specs.Limits.{most_reads}
 use Rattle.tube_spec.specs.Span.{Span}
 use Rattle.tube_spec.specs.Shape.{Shape}
 use Rattle.tube_spec.specs.Projection.{Projection}
-use Rattle.tube_spec.specs.Fixpoint.{IsFixpoint}
 use Rattle.tube_store.specs.State.{State, IsStore, no_cells}
-use Rattle.ctc_network.specs.Rosters.{Members}
+use Rattle.cell_readers.specs.Entries.{Table, AreReaders, reads_cell}
+use Rattle.firing_cost.specs.Waking.{AreAtRest}
 
 -- the store, the contractors under their numbers, and beside each whether it waits
 pub record NetState (C : Type 0) : Type 0 where
@@ -18,9 +18,9 @@ pub record NetState (C : Type 0) : Type 0 where
 abbrev pub no_net : {C : Type 0} → List ℕ → NetState C
 no_net grid = record { store = no_cells grid; contractors = []; waiting = [] }
 
--- a cell is among those that a contractor reads
-abbrev pub reads_cell : List ℕ → ℕ → Bool
-reads_cell scope cell = list_any (nat_eq cell) scope
+-- whether a contractor reads a cell
+abbrev pub reads_by : {C : Type 0} → (C → Shape → List ℕ) → Shape → C → ℕ → Bool
+reads_by scope s c cell = reads_cell (scope c s) cell
 
 -- how many of the contractors read a cell
 abbrev pub readers_of : {C : Type 0} → (C → Shape → List ℕ) → Shape → List C → ℕ → ℕ
@@ -30,28 +30,33 @@ readers_of scope s cs cell = count_by (λ c. reads_cell (scope c s) cell) cs
 abbrev pub entries_of : {C : Type 0} → (C → Shape → List ℕ) → Shape → List C → ℕ
 entries_of scope s cs = sum_by (λ c. length (scope c s)) cs
 
--- Every contractor that does not wait leaves the box: where the box is not empty, it is a fixpoint of that contractor.
-abbrev pub AreAtRest : {C : Type 0} → (C → List Projection) → List C → List Bool → Option (List Span) → Type 0
-AreAtRest {C} projections cs waiting box = (k : ℕ) (c : C) → slice_get cs k ≡ Some c → slice_get waiting k ≡ Some false → IfSome box (IsFixpoint (projections c))
-
--- what holds of every net
+-- what holds of every net: above all, each contractor that does not wait leaves the box
 pub record IsNet {C : Type 0} (projections : C → Shape → List Projection) (scope : C → Shape → List ℕ) (fits : C → Shape → Option (List Span) → Type 0) (n : NetState C) : Type 0 where
   pub store : IsStore n.store
   pub few : length n.contractors ≤ 4000000000
   pub beside : length n.waiting ≡ length n.contractors
   pub fit : All (λ c. fits c n.store.shape n.store.box) n.contractors
-  pub entries : entries_of scope n.store.shape n.contractors ≤ 20000000
+  pub entries : entries_of scope n.store.shape n.contractors ≤ most_reads
   pub rest : AreAtRest (λ c. projections c n.store.shape) n.contractors n.waiting n.store.box
 
--- a store and the contractors over it
-abbrev pub net_of : {C : Type 0} → State → Members C → NetState C
-net_of store members = record { store = store; contractors = members.contractors; waiting = members.waiting }
+-- no cell is touched, unless the box is empty
+abbrev pub IsDrained : State → Type 0
+IsDrained s = IfSome s.box (λ xs. s.touched ≡ [])
 
--- The invariant of a net, with the count of readers at each cell, one more than the number that was counted there last, and how many
--- cells are read, those of each contractor added up.
+-- a net between two calls: the readers of what became narrower were woken
+pub record IsSettlable {C : Type 0} (projections : C → Shape → List Projection) (scope : C → Shape → List ℕ) (fits : C → Shape → Option (List Span) → Type 0) (n : NetState C) : Type 0 where
+  pub net : IsNet projections scope fits n
+  pub drained : IsDrained n.store
+
+-- the table has exactly the readers of each cell
+pub record IsTableOf (scopes : List (List ℕ)) (table : Table) (entries : ℕ) : Type 0 where
+  pub readers : AreReaders scopes table.readers
+  pub contractors : table.contractors ≡ length scopes
+  pub few : table.entries ≤ entries
+  pub sum : entries ≡ sum_by (λ scope. length scope) scopes
+
+-- The invariant of a net, with the table of the readers of its cells, and how many cells are read, those of each contractor added up.
 pub record IsKept {C : Type 0} (projections : C → Shape → List Projection) (scope : C → Shape → List ℕ) (fits : C → Shape → Option (List Span) → Type 0)
-    (store : State) (members : Members C) (counts last : List ℕ) (entries : ℕ) : Type 0 where
-  pub net : IsNet projections scope fits (net_of store members)
-  pub readers : (k : ℕ) → slice_index counts k ≡ readers_of scope store.shape members.contractors k
-  pub numbers : (k : ℕ) → slice_index last k ≤ length members.contractors
-  pub sum : entries ≡ entries_of scope store.shape members.contractors
+    (n : NetState C) (table : Table) (entries : ℕ) : Type 0 where
+  pub state : IsSettlable projections scope fits n
+  pub table_of : IsTableOf (map (λ c. scope c n.store.shape) n.contractors) table entries

@@ -5,6 +5,7 @@ use Rattle.tube_spec.specs.Shape.{with_signal, with_var, no_shape, Shape, IsShap
 use Rattle.tube_spec.specs.Box.{IsBox, IsBelowBox, box_more}
 use Rattle.tube_spec.specs.Projection.{Projection}
 use Rattle.tube_spec.specs.Fixpoint.{IsFixpoint, IsGreatest, KeepsFixpoints}
+use Rattle.ctc_network.specs.Nets.{NetState}
 
 -- One step of a network: a signal, a variable or a contractor is added, or the contractor with a number is fired and leaves a box.
 pub data Event (C : Type 0) : Type 0 where
@@ -55,6 +56,16 @@ IsAllowed {C} projections fits n (Fire k box) = (c : C) × (slice_get n.contract
 abbrev pub IsSchedule : {C : Type 0} → (C → Shape → List Projection) → (C → Shape → Option (List Span) → Type 0) → Network C → List (Event C) → Type 0
 IsSchedule projections fits n [] = Unit {0}
 IsSchedule projections fits n (e ∷ es) = IsAllowed projections fits n e × IsSchedule projections fits (after n e) es
+
+-- a net has the cells, the box and the contractors of a network
+pub record IsNetworkOf {C : Type 0} (n : Network C) (net : NetState C) : Type 0 where
+  pub shape : n.shape ≡ net.store.shape
+  pub box : n.box ≡ net.store.box
+  pub contractors : n.contractors ≡ net.contractors
+
+-- the event is allowed, and the net is what it makes of the network
+abbrev pub IsStep : {C : Type 0} → (C → Shape → List Projection) → (C → Shape → Option (List Span) → Type 0) → Network C → Event C → NetState C → Type 0
+IsStep projections fits n e net = IsAllowed projections fits n e × IsNetworkOf (after n e) net
 
 -- the projections of all contractors
 abbrev pub all_projections : {C : Type 0} → (C → Shape → List Projection) → Network C → List Projection

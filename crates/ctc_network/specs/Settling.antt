@@ -1,15 +1,15 @@
--- Firings in a row, and what the answers of settling say.
-use Rattle.std.specs.Prelude.{◌≡◌, ℕ, ◌+◌, ◌-◌, ◌≤◌, Option, Some, List, Bool, true, false, IsSome, IsNone, IsSomeAnd, length, replicate, slice_get, slice_set, flat_map, filter_map}
+-- Firings: who waits afterwards, and what the answers of settling say.
+use Rattle.std.specs.Prelude.{◌≡◌, ℕ, ◌+◌, ◌≤◌, ◌⊎◌, ◌↔◌, Option, Some, None, List, Bool, true, IsSome, IsNone, IsSomeAnd, Contains, length, slice_get, flat_map, filter_map}
 use Rattle.tube_spec.specs.Span.{Span}
+use Rattle.tube_spec.specs.Shape.{Shape}
 use Rattle.tube_spec.specs.Box.{IsBelowBox, measure_of}
 use Rattle.tube_spec.specs.Projection.{Projection}
 use Rattle.tube_spec.specs.Fixpoint.{IsFixpoint, IsGreatest, KeepsFixpoints}
 use Rattle.tube_store.specs.State.{State}
+use Rattle.ctc_core.specs.Revising.{IsNarrower}
+use Rattle.ctc_core.specs.Answers.{Revises}
 use Rattle.ctc_core.specs.declared.Revised.{Revised}
-use Rattle.ctc_core.specs.declared.Revised.TheVariants as fired
 use Rattle.ctc_network.specs.declared.answers.CtcId.{CtcId}
-use Rattle.ctc_network.specs.declared.answers.Order.{Order}
-use Rattle.ctc_network.specs.declared.answers.Order.TheVariants.{Fifo, Lifo, Rank}
 use Rattle.ctc_network.specs.declared.answers.Settled.{Settled}
 use Rattle.ctc_network.specs.declared.answers.Settled.TheVariants.{Fixpoint, Empty, Spent}
 
@@ -17,17 +17,24 @@ use Rattle.ctc_network.specs.declared.answers.Settled.TheVariants.{Fixpoint, Emp
 abbrev pub contractors_at : {C : Type 0} → List C → List CtcId → List C
 contractors_at cs ids = filter_map (λ id. slice_get cs id.0) ids
 
--- who waits after the contractor with a number was fired: where the box stayed it rests, and where it was narrowed everyone waits
-abbrev pub waiting_after : Revised → List Bool → ℕ → List Bool
-waiting_after fired.Same waiting k = slice_set waiting k false
-waiting_after fired.Narrowed waiting k = replicate (length waiting) true
-waiting_after fired.Empty waiting k = waiting
+-- The laws of a firing hold, with the list of touched cells set aside: the net takes the touched cells and wakes their readers.
+abbrev pub Fires : List Projection → State → State → Revised → Type 0
+Fires ps old new answer = (touched : List ℕ) × Revises ps old (record new { touched = touched }) answer
 
--- the number that comes in a turn of a round over so many contractors
-abbrev pub number_at : Order → ℕ → ℕ → ℕ
-number_at Fifo turn count = turn
-number_at Lifo turn count = count - 1 - turn
-number_at Rank turn count = turn
+-- a cell is narrower in the new box, and neither box is empty
+abbrev pub NarrowerIn : Option (List Span) → Option (List Span) → ℕ → Type 0
+NarrowerIn None new cell = ⊥
+NarrowerIn (Some xs) None cell = ⊥
+NarrowerIn (Some xs) (Some ys) cell = IsNarrower xs ys cell
+
+-- among these cells is one that is narrower in the new box
+abbrev pub ReadsNarrower : List ℕ → Option (List Span) → Option (List Span) → Type 0
+ReadsNarrower scope old new = (cell : ℕ) × Contains scope cell × NarrowerIn old new cell
+
+-- Those wait afterwards, and no others, that waited before, the one that was fired, and those that read a narrower cell.
+pub record IsWoken {C : Type 0} (scope : C → Shape → List ℕ) (s : Shape) (cs : List C) (old new : Option (List Span)) (fired : ℕ) (before after : List Bool) : Type 0 where
+  pub len : length after ≡ length before
+  pub waits : (k : ℕ) (c : C) → slice_get cs k ≡ Some c → (slice_get after k ≡ Some true) ↔ ((slice_get before k ≡ Some true) ⊎ ((k ≡ fired) ⊎ ReadsNarrower (scope c s) old new))
 
 -- Firings made the one store of the other: the box lies below the box before, and every common fixpoint below that stays.
 pub record IsNarrowedBy (ps : List Projection) (old new : State) : Type 0 where

@@ -1,7 +1,9 @@
-ghost use Rattle.std.specs.Prelude.{◌≡◌, ◌<◌};
-ghost use Rattle.ctc_network.specs.Settling.{number_at};
+//! The names and answers of a net.
+
+ghost use Rattle.std.specs.Prelude.{◌≡◌, ◌<◌, Some, true, false, All, IsFalse, MatchOption, slice_get, slice_set};
 ghost use Rattle.ctc_network.specs.declared.answers.AddFault.TheVariants.{NoMemory};
 
+use once_queue::Waiting;
 use std::alloc::AllocError;
 
 /// The number of a contractor, from 0 in order of addition.
@@ -11,7 +13,7 @@ pub struct CtcId(pub u32);
 /// Why a contractor could not be added.
 #[derive(Clone, Copy, Debug, PartialEq, Eq)]
 pub enum AddFault {
-    /// The contractors would read more than `MAX_ENTRIES` cells, those of each added up.
+    /// The contractors would read more than `MOST_READS` cells, those of each added up.
     FootFull,
     /// Memory ran out.
     NoMemory,
@@ -25,26 +27,26 @@ impl From<AllocError> for AddFault {
     }
 }
 
-/// The order in which a round fires the contractors that wait: by rising numbers, or by falling ones.
+/// Which of the contractors that wait is fired next. The order makes no difference to the box at the end.
 #[derive(Clone, Copy, Debug, PartialEq, Eq)]
 pub enum Order {
-    /// By rising numbers.
+    /// The one that has waited longest.
     Fifo,
-    /// By falling numbers.
+    /// The one that began to wait last.
     Lifo,
-    /// By rising numbers.
+    /// The one with the least number.
     Rank,
 }
 
 impl Order {
-    // The number that comes in a turn of a round over so many contractors.
-    pub(crate) fn number_at(self, turn: u32, count: u32) -> u32
-        requires { turn < count }
-        ensures { result ≡ number_at self turn count }
+    // Takes the contractor that comes next, so that it rests, or says that none waits.
+    pub(crate) fn take(self, waiting: &mut Waiting) -> Option<u32>
+        ensures { MatchOption result (All IsFalse waiting.old × (waiting.new ≡ waiting.old)) (λ number. (slice_get waiting.old number ≡ Some true) × (waiting.new ≡ slice_set waiting.old number false)) }
     {
         match self {
-            Order::Fifo | Order::Rank => turn,
-            Order::Lifo => count - 1 - turn,
+            Order::Fifo => waiting.take_first(),
+            Order::Lifo => waiting.take_last(),
+            Order::Rank => waiting.take_least(),
         }
     }
 }

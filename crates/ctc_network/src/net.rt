@@ -1,18 +1,23 @@
+//! The net: its calls, and the loop of settling.
+
 ghost use Rattle.std.specs.Prelude.{◌≡◌, ◌+◌, ◌-◌, ◌*◌, ◌<◌, ◌≤◌, ◌↔◌, [], ◌∷◌, ◌++◌, ℕ, Some, true, false, IsTrue, IsFalse, IsSome, IsNone, IfSome, OnOk, OnErr, IfOk, IsErrOf, length, All, count_by, slice_get, slice_set, flat_map};
+ghost use Rattle.tube_spec.specs.Limits.{greatest_bound, most_cells, most_reads};
 ghost use Rattle.tube_spec.specs.Span.{IsBounded};
 ghost use Rattle.tube_spec.specs.Box.{measure_of};
 ghost use Rattle.tube_spec.specs.Owner.{SignalIn, VariableIn};
 ghost use Rattle.tube_spec.specs.Fixpoint.{IsFixpoint};
 ghost use Rattle.tube_store.specs.State.{State, state_with};
-ghost use Rattle.ctc_core.specs.Answers.{Revises, MatchRevised};
-ghost use Rattle.ctc_network.specs.Nets.{NetState, IsNet, no_net, entries_of, readers_of};
-ghost use Rattle.ctc_network.specs.Settling.{IsNarrowedBy, SettlesAs, StillNarrows, contractors_at, waiting_after};
+ghost use Rattle.ctc_core.specs.Answers.{MatchRevised};
+ghost use Rattle.firing_cost.specs.Costs.{lost_cost, potential};
+ghost use Rattle.ctc_network.specs.Nets.{NetState, IsNet, IsSettlable, no_net, entries_of, readers_of};
+ghost use Rattle.ctc_network.specs.Settling.{Fires, IsWoken, IsNarrowedBy, SettlesAs, StillNarrows, contractors_at};
 
 use crate::answers::{AddFault, CtcId, Order, Settled};
-use crate::readers::Readers;
-use crate::roster::Roster;
+use crate::noting::note;
+use cell_readers::Readers;
 use ctc_core::{Contractor, Revised, start};
 use int_interval::Interval;
+use once_queue::Waiting;
 use slice_gates::Grid;
 use std::alloc::Global;
 use std::marker::Model;
@@ -21,26 +26,27 @@ use step_count::Steps;
 use tube_store::{CellId, SignalId, Store, StoreFault, VarId};
 
 /// The most cells that the contractors of a net may read, those of each added up.
-pub const MAX_ENTRIES: u32 = 20_000_000;
+pub const MOST_READS: u32 = 20_000_000;
 
 /// A store and its contractors, each of which waits to be fired or leaves the box as it is.
 #[derive(Drop)]
 pub struct Net<C: Contractor + Drop> {
     store: Store,
-    roster: Roster<C>,
+    contractors: Vec<C>,
+    waiting: Waiting,
     readers: Readers,
     // How many cells the contractors read, those of each added up.
     entries: u32,
 }
 
 impl<C: Contractor + Drop> Model for Net<C> {
-    ghost use Rattle.ctc_network.specs.Nets.{NetState, net_of, IsKept};
+    ghost use Rattle.ctc_network.specs.Nets.{NetState, IsKept};
 
     ghost Value = { NetState C };
 
-    ghost view = { λ n. net_of n.store n.roster };
+    ghost view = { λ n. record { store = n.store; contractors = n.contractors.items; waiting = n.waiting } };
 
-    ghost invariant = { λ n. IsKept C.projections C.scope C.fits n.store n.roster n.readers.counts.items n.readers.last.items n.entries };
+    ghost invariant = { λ n. IsKept C.projections C.scope C.fits (record { store = n.store; contractors = n.contractors.items; waiting = n.waiting }) n.readers n.entries };
 }
 
 impl<C: Contractor + Drop> Net<C> {
@@ -52,7 +58,8 @@ impl<C: Contractor + Drop> Net<C> {
         store.known();
         Net {
             store,
-            roster: Roster::new(alloc),
+            contractors: Vec::new(alloc),
+            waiting: Waiting::new(alloc),
             readers: Readers::new(alloc),
             entries: 0,
         }
@@ -61,6 +68,13 @@ impl<C: Contractor + Drop> Net<C> {
     /// What holds of every net: above all, each contractor that does not wait leaves the box.
     pub fn known(&self)
         ensures { IsNet C.projections C.scope C.fits self.now }
+    {
+        let _store = &self.store;
+    }
+
+    // The same, and that the readers of every narrower cell were woken.
+    fn settlable(&self)
+        ensures { IsSettlable C.projections C.scope C.fits self.now }
     {
         let _store = &self.store;
     }
@@ -83,21 +97,29 @@ impl<C: Contractor + Drop> Net<C> {
     pub fn len(&self) -> u32
         ensures { result ≡ length self.now.contractors }
     {
-        self.roster.len() as u32
+        self.waiting.len()
     }
 
     /// How many contractors read a cell. A contractor that names it several times counts once.
     pub fn readers(&self, c: CellId) -> u32
         ensures { result ≡ readers_of C.scope self.now.store.shape self.now.contractors c.0 }
     {
-        self.readers.at(c)
+        self.readers.count(c)
     }
 
     /// How many contractors wait.
     pub fn waiting(&self) -> u32
         ensures { result ≡ count_by (λ waits. waits) self.now.waiting }
     {
-        self.roster.waiting() as u32
+        self.waiting.count()
+    }
+
+    /// Whether a contractor waits.
+    pub fn waits(&self, id: CtcId) -> bool
+        requires { id.0 < length self.now.contractors }
+        ensures { slice_get self.now.waiting id.0 ≡ Some result }
+    {
+        self.waiting.waits(id.0)
     }
 
     /// The contractor with a number.
@@ -105,15 +127,15 @@ impl<C: Contractor + Drop> Net<C> {
         requires { id.0 < length self.now.contractors }
         ensures { slice_get self.now.contractors id.0 ≡ Some result.now }
     {
-        self.roster.get(id.0 as usize)
+        &self.contractors[id.0 as usize]
     }
 
     /// Adds a signal to the store, whose cells hold its declared range. The contractors stay, and who of them waits.
     pub fn add_signal(&mut self, range: Interval) -> Result<SignalId, StoreFault>
-        requires range { IsBounded 500000000 range }
+        requires range { IsBounded greatest_bound range }
         ensures id { IfOk result (λ signal. signal.0 ≡ length self.old.store.shape.signals) }
         ensures ok { OnOk result (self.new ≡ record self.old { store = state_with self.old.store (SignalIn range) }) }
-        ensures full { IsErrOf result StoreFault.CellsFull ↔ (2000000 < self.old.store.shape.cells + (2 * length self.old.store.shape.grid - 1)) }
+        ensures full { IsErrOf result StoreFault.CellsFull ↔ (most_cells < self.old.store.shape.cells + (2 * length self.old.store.shape.grid - 1)) }
         ensures err { OnErr result (self.new ≡ self.old) }
     {
         let id = self.store.add_signal(range)?;
@@ -123,10 +145,10 @@ impl<C: Contractor + Drop> Net<C> {
 
     /// Adds a variable to the store, whose cell holds its declared range. The contractors stay, and who of them waits.
     pub fn add_var(&mut self, range: Interval) -> Result<VarId, StoreFault>
-        requires range { IsBounded 500000000 range }
+        requires range { IsBounded greatest_bound range }
         ensures id { IfOk result (λ var. var.0 ≡ length self.old.store.shape.vars) }
         ensures ok { OnOk result (self.new ≡ record self.old { store = state_with self.old.store (VariableIn range) }) }
-        ensures full { IsErrOf result StoreFault.CellsFull ↔ (2000000 < self.old.store.shape.cells + 1) }
+        ensures full { IsErrOf result StoreFault.CellsFull ↔ (most_cells < self.old.store.shape.cells + 1) }
         ensures err { OnErr result (self.new ≡ self.old) }
     {
         let id = self.store.add_var(range)?;
@@ -140,35 +162,42 @@ impl<C: Contractor + Drop> Net<C> {
         requires few { length self.old.contractors < 4000000000 }
         ensures id { IfOk result (λ id. id.0 ≡ length self.old.contractors) }
         ensures ok { OnOk result (self.new ≡ record self.old { contractors = self.old.contractors ++ c ∷ []; waiting = self.old.waiting ++ true ∷ [] }) }
-        ensures full { IsErrOf result AddFault.FootFull ↔ (20000000 < entries_of C.scope self.old.store.shape self.old.contractors + length (C.scope c self.old.store.shape)) }
+        ensures full { IsErrOf result AddFault.FootFull ↔ (most_reads < entries_of C.scope self.old.store.shape self.old.contractors + length (C.scope c self.old.store.shape)) }
         ensures err { OnErr result (self.new ≡ self.old) }
     {
         let reads = c.reads(&self.store);
-        if reads > MAX_ENTRIES - self.entries {
+        if reads > MOST_READS - self.entries {
             return Err(AddFault::FootFull);
         }
-        let number = self.roster.len();
-        self.readers.cover(self.store.cells() as usize)?;
-        self.roster.push(c)?;
+        let number = self.waiting.len();
+        self.contractors.reserve(1)?;
         self.readers
-            .count(self.roster.get(number), &self.store, number as u32);
+            .cover(self.store.cells() as usize, reads as usize)?;
+        self.waiting.push_number()?;
+        self.readers.add(&c, &self.store);
+        self.contractors.push_reserved(c);
         self.entries += reads;
-        Ok(CtcId(number as u32))
+        Ok(CtcId(number))
     }
 
-    /// Fires a contractor once, whether it waits or not. Where a cell was narrowed, every contractor waits afterwards, and where the
-    /// box stayed, this one does not.
+    /// Fires a contractor once, whether it waits or not. Where the box stayed, it does not wait afterwards. Where cells were narrowed,
+    /// it waits and so do exactly the contractors that read one of these cells, and those that waited before.
     pub fn fire<L: Ledger>(&mut self, id: CtcId, steps: &mut Steps<L>) -> Revised
         requires { id.0 < length self.old.contractors }
-        ensures fired { IfSome (slice_get self.old.contractors id.0) (λ c. Revises (C.projections c self.old.store.shape) self.old.store self.new.store result) }
+        ensures fired { IfSome (slice_get self.old.contractors id.0) (λ c. Fires (C.projections c self.old.store.shape) self.old.store self.new.store result) }
         ensures narrowed { IsNarrowedBy (flat_map (λ c. C.projections c self.old.store.shape) self.old.contractors) self.old.store self.new.store }
         ensures contractors { self.new.contractors ≡ self.old.contractors }
-        ensures waiting { self.new.waiting ≡ waiting_after result self.old.waiting id.0 }
+        ensures waiting { MatchRevised result (self.new.waiting ≡ slice_set self.old.waiting id.0 false) (IsWoken C.scope self.old.store.shape self.old.contractors self.old.store.box self.new.store.box id.0 self.old.waiting self.new.waiting) (self.new.waiting ≡ self.old.waiting) }
         ensures step { steps.new ≡ steps.old + 1 }
     {
-        let number = id.0 as usize;
-        let answer = self.roster.get(number).revise(&mut self.store, steps);
-        self.roster.note(number, answer);
+        let answer = self.contractors[id.0 as usize].revise(&mut self.store, steps);
+        note(
+            answer,
+            id.0,
+            &self.readers,
+            &mut self.store,
+            &mut self.waiting,
+        );
         answer
     }
 
@@ -176,63 +205,65 @@ impl<C: Contractor + Drop> Net<C> {
     /// `Same` exactly where it is not and no cell was narrowed.
     pub fn replay<L: Ledger>(&mut self, ids: &[CtcId], steps: &mut Steps<L>) -> Revised
         requires { All (λ id. id.0 < length self.old.contractors) ids.now }
-        ensures fired { Revises (flat_map (λ c. C.projections c self.old.store.shape) (contractors_at self.old.contractors ids.now)) self.old.store self.new.store result }
+        ensures fired { Fires (flat_map (λ c. C.projections c self.old.store.shape) (contractors_at self.old.contractors ids.now)) self.old.store self.new.store result }
         ensures narrowed { IsNarrowedBy (flat_map (λ c. C.projections c self.old.store.shape) self.old.contractors) self.old.store self.new.store }
         ensures contractors { self.new.contractors ≡ self.old.contractors }
         ensures steps { steps.new ≡ steps.old + length ids.now }
     {
         let mut answer = start(&self.store);
         for id in ids {
+            self.settlable();
             let next = self.fire(*id, steps);
             answer = answer.then(next);
         }
         answer
     }
 
-    /// Fires the contractors that wait, in rounds of the given order, until a whole round leaves the box, the box is empty, or its
-    /// measure, the sum of the widths of all cells, has fallen by the budget or more.
+    /// Fires the contractors that wait, one at a time in the given order, until none waits, the box is empty, or its measure, the sum
+    /// of the widths of all cells, has fallen by the budget or more.
     ///
     /// Then a contractor is sought that still narrows the box: where there is one, the answer is `Spent` with it, and else `Fixpoint`.
     /// So `Spent` never comes where the budget is above the measure at the start. The net may be settled again after `Spent`; after
     /// `Empty` every later call answers `Empty` with no step. Only the store's box and its touched cells change, and who waits.
+    ///
+    /// The steps are at most as many as waited, and for each cell the width that it lost times one more than its readers. It takes no
+    /// memory.
     pub fn settle<L: Ledger>(&mut self, order: Order, budget: u64, steps: &mut Steps<L>) -> Settled
         ensures contractors { self.new.contractors ≡ self.old.contractors }
         ensures shape { self.new.store.shape ≡ self.old.store.shape }
         ensures settled { SettlesAs (λ c. C.projections c self.old.store.shape) self.old.contractors budget self.old.store self.new.store result }
         ensures resting { result ≡ Settled.Fixpoint → All IsFalse self.new.waiting }
         ensures emptied { IsNone self.old.store.box → (result ≡ Settled.Empty) × (self.new ≡ self.old) × (steps.new ≡ steps.old) }
+        ensures bound { steps.new ≤ steps.old + count_by (λ w. w) self.old.waiting + lost_cost (readers_of C.scope self.old.store.shape self.old.contractors) self.old.store.box self.new.store.box }
     {
         if self.store.is_empty() {
             return Settled::Empty;
         }
-        self.settle_rounds(order, budget, steps)
+        self.settle_some(order, budget, steps)
     }
 
     // Settles a net whose box is not empty.
-    fn settle_rounds<L: Ledger>(
-        &mut self,
-        order: Order,
-        budget: u64,
-        steps: &mut Steps<L>,
-    ) -> Settled
+    fn settle_some<L: Ledger>(&mut self, order: Order, budget: u64, steps: &mut Steps<L>) -> Settled
         requires { IsSome self.old.store.box }
         ensures contractors { self.new.contractors ≡ self.old.contractors }
         ensures shape { self.new.store.shape ≡ self.old.store.shape }
         ensures settled { SettlesAs (λ c. C.projections c self.old.store.shape) self.old.contractors budget self.old.store self.new.store result }
         ensures resting { result ≡ Settled.Fixpoint → All IsFalse self.new.waiting }
+        ensures bound { steps.new ≤ steps.old + count_by (λ w. w) self.old.waiting + lost_cost (readers_of C.scope self.old.store.shape self.old.contractors) self.old.store.box self.new.store.box }
     {
         let start = self.store.measure();
         loop {
             if self.is_spent(start, budget) {
-                return match self.find_still(steps) {
+                return match self.seek(order, steps) {
                     Some(id) => Settled::Spent(id),
                     None => Settled::Fixpoint,
                 };
             }
-            match self.round(order, steps) {
-                Revised::Same => return Settled::Fixpoint,
-                Revised::Empty => return Settled::Empty,
-                Revised::Narrowed => {}
+            match self.fire_next(order, steps) {
+                None => return Settled::Fixpoint,
+                Some(Revised::Empty) => return Settled::Empty,
+                Some(Revised::Same) => {}
+                Some(Revised::Narrowed) => {}
             }
         }
     }
@@ -245,88 +276,63 @@ impl<C: Contractor + Drop> Net<C> {
         start - self.store.measure() >= budget as u128
     }
 
-    // Fires each contractor that waits in its turn, and ends at once where the box becomes empty.
-    fn round<L: Ledger>(&mut self, order: Order, steps: &mut Steps<L>) -> Revised
+    // Takes the contractor that comes next and fires it.
+    fn fire_next<L: Ledger>(&mut self, order: Order, steps: &mut Steps<L>) -> Option<Revised>
         requires { IsSome self.old.store.box }
         ensures contractors { self.new.contractors ≡ self.old.contractors }
         ensures narrowed { IsNarrowedBy (flat_map (λ c. C.projections c self.old.store.shape) self.old.contractors) self.old.store self.new.store }
-        ensures says { MatchRevised result ((self.new.store ≡ self.old.store) × All IsFalse self.new.waiting) ((measure_of self.new.store.box < measure_of self.old.store.box) × IsSome self.new.store.box) (IsNone self.new.store.box) }
         ensures net { IsNet C.projections C.scope C.fits self.new }
+        ensures none { IsNone result → All IsFalse self.old.waiting × (self.new ≡ self.old) × (steps.new ≡ steps.old) }
+        ensures says { IfSome result (λ x. MatchRevised x (IsSome self.new.store.box) (IsSome self.new.store.box) (IsNone self.new.store.box)) }
+        ensures step { IfSome result (λ x. steps.new ≡ steps.old + 1) }
+        ensures falls { IfSome result (λ x. potential (readers_of C.scope self.old.store.shape self.old.contractors) self.new.waiting self.new.store.box + 1 ≤ potential (readers_of C.scope self.old.store.shape self.old.contractors) self.old.waiting self.old.store.box) }
     {
-        self.known();
-        let count = self.len();
-        let mut answer = Revised::Same;
-        for turn in 0..count {
-            let id = CtcId(order.number_at(turn, count));
-            match self.take_turn(id, steps) {
-                Revised::Empty => {
-                    self.known();
-                    return Revised::Empty;
-                }
-                next => answer = answer.then(next),
-            }
-        }
-        self.known();
-        answer
+        let number = order.take(&mut self.waiting)?;
+        let answer = self.contractors[number as usize].revise(&mut self.store, steps);
+        note(
+            answer,
+            number,
+            &self.readers,
+            &mut self.store,
+            &mut self.waiting,
+        );
+        Some(answer)
     }
 
-    // Fires a contractor where it waits. One that rests would leave the box as it is.
-    fn take_turn<L: Ledger>(&mut self, id: CtcId, steps: &mut Steps<L>) -> Revised
-        requires named { id.0 < length self.old.contractors }
-        requires some { IsSome self.old.store.box }
-        ensures contractors { self.new.contractors ≡ self.old.contractors }
-        ensures narrowed { IsNarrowedBy (flat_map (λ c. C.projections c self.old.store.shape) self.old.contractors) self.old.store self.new.store }
-        ensures beside { length self.new.waiting ≡ length self.old.waiting }
-        ensures says { MatchRevised result ((self.new.store ≡ self.old.store) × (self.new.waiting ≡ slice_set self.old.waiting id.0 false)) ((measure_of self.new.store.box < measure_of self.old.store.box) × IsSome self.new.store.box) (IsNone self.new.store.box) }
-    {
-        if self.roster.waits(id.0 as usize) {
-            self.fire(id, steps)
-        } else {
-            Revised::Same
-        }
-    }
-
-    // Whether a contractor waits.
-    fn waits(&self, id: CtcId) -> bool
-        requires { id.0 < length self.now.contractors }
-        ensures { slice_get self.now.waiting id.0 ≡ Some result }
-    {
-        self.roster.waits(id.0 as usize)
-    }
-
-    // The first contractor that still narrows the box. Where there is none, nobody waits afterwards.
-    fn find_still<L: Ledger>(&mut self, steps: &mut Steps<L>) -> Option<CtcId>
+    // A contractor that still narrows the box, which waits. Where there is none, nobody waits afterwards.
+    fn seek<L: Ledger>(&mut self, order: Order, steps: &mut Steps<L>) -> Option<CtcId>
         requires { IsSome self.old.store.box }
         ensures store { self.new.store ≡ self.old.store }
         ensures contractors { self.new.contractors ≡ self.old.contractors }
+        ensures net { IsNet C.projections C.scope C.fits self.new }
         ensures found { IfSome result (λ id. StillNarrows (λ c. C.projections c self.new.store.shape) self.new.contractors self.new.store.box id.0) }
         ensures none { IsNone result → All IsFalse self.new.waiting }
-        ensures net { IsNet C.projections C.scope C.fits self.new }
+        ensures steps { steps.new ≤ steps.old + count_by (λ w. w) self.old.waiting }
     {
-        for number in 0..self.len() {
-            let id = CtcId(number);
-            if self.waits(id) && self.still(id, steps) {
-                self.known();
-                return Some(id);
+        loop {
+            match self.try_next(order, steps) {
+                None => return None,
+                Some(Some(id)) => return Some(id),
+                Some(None) => {}
             }
         }
-        self.known();
-        None
     }
 
-    // Whether a contractor still narrows the box. Where it does not, it rests from now on.
-    fn still<L: Ledger>(&mut self, id: CtcId, steps: &mut Steps<L>) -> bool
-        requires { id.0 < length self.old.contractors }
+    // Takes the contractor that comes next, and tries whether it still narrows the box: then it waits on, and else it rests.
+    fn try_next<L: Ledger>(&mut self, order: Order, steps: &mut Steps<L>) -> Option<Option<CtcId>>
         ensures store { self.new.store ≡ self.old.store }
         ensures contractors { self.new.contractors ≡ self.old.contractors }
-        ensures yes { IsTrue result → (self.new.waiting ≡ self.old.waiting) × StillNarrows (λ c. C.projections c self.new.store.shape) self.new.contractors self.new.store.box id.0 }
-        ensures no { IsFalse result → self.new.waiting ≡ slice_set self.old.waiting id.0 false }
+        ensures net { IsNet C.projections C.scope C.fits self.new }
+        ensures found { IfSome result (λ still. IfSome still (λ id. StillNarrows (λ c. C.projections c self.new.store.shape) self.new.contractors self.new.store.box id.0)) }
+        ensures none { IsNone result → All IsFalse self.new.waiting × (steps.new ≡ steps.old) }
+        ensures some { IfSome result (λ still. (0 < count_by (λ w. w) self.old.waiting) × (steps.new ≡ steps.old + 1)) }
+        ensures rests { IfSome result (λ still. IsNone still → count_by (λ w. w) self.new.waiting + 1 ≡ count_by (λ w. w) self.old.waiting) }
     {
-        let number = id.0 as usize;
-        if self.roster.get(number).still(&self.store, steps) {
-            return true;
+        let number = order.take(&mut self.waiting)?;
+        if self.contractors[number as usize].still(&self.store, steps) {
+            self.waiting.wake(number);
+            return Some(Some(CtcId(number)));
         }
-        self.roster.rest(number);
-        false
+        Some(None)
     }
 }

@@ -5,12 +5,12 @@
 ghost use Rattle.std.specs.Prelude.{◌≡◌, ◌<◌, IfSome};
 ghost use Rattle.tube_spec.specs.Span.{IsBounded};
 
+use any_ctc::AnyCtc;
 use ctc_core::Revised;
 use ctc_delay::{DelayShift, DelayTo};
 use ctc_eval::EvalCtc;
 use ctc_network::{CtcId, Net};
 use int_interval::Interval;
-use mission_net::AnyCtc;
 use slice_gates::Grid;
 use std::alloc::Global;
 use std::env;

@@ -1,9 +1,9 @@
 ghost use Rattle.std.specs.Prelude.{◌≡◌, ◌<◌};
 
+use any_ctc::AnyCtc;
 use ctc_deriv::{BoundCtc, DerivCtc, SliceCtc};
 use ctc_network::{Net, Order, Settled};
 use int_interval::Interval;
-use mission_net::AnyCtc;
 use slice_gates::Grid;
 use std::alloc::Global;
 use std::marker::Brand;

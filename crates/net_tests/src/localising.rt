@@ -1,6 +1,7 @@
 ghost use Rattle.std.specs.Prelude.{◌≡◌, ◌<◌, IfOk};
 ghost use Rattle.tube_spec.specs.Span.{IsBounded};
 
+use any_ctc::AnyCtc;
 use ctc_constell::ConstellCtc;
 use ctc_delay::{DelayFrom, DelayShift, DelayTo};
 use ctc_deriv::{DerivCtc, SliceCtc};
@@ -8,7 +9,6 @@ use ctc_dist::DistCtc;
 use ctc_eval::EvalCtc;
 use ctc_network::{Net, Order, Settled};
 use int_interval::Interval;
-use mission_net::AnyCtc;
 use slice_gates::Grid;
 use std::alloc::Global;
 use std::marker::Brand;

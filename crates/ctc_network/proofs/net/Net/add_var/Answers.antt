@@ -11,6 +11,6 @@ invariant_of-self-2 g c =
     let m = g.met.C.Contractor in
     let n = c.self.inside in
     let grown = c.in_ok-id.ensures.ok in
-    subst (λ (s : State). IsKept K.projections K.scope K.fits s n.roster n.readers.counts.items n.readers.last.items n.entries) (sym grown)
-    (kept-grown g.row.C.Denot K.projections K.scope K.fits m.fits_below m.reads_only m.fits_local m.in_store m.fits_more m.same_projections m.same_scope n.store (VariableIn c.args.range) n.roster n.readers.counts.items n.readers.last.items n.entries c.self.invariant
+    subst (λ (s : State). IsKept K.projections K.scope K.fits (record { store = s; contractors = n.contractors.items; waiting = n.waiting }) n.readers n.entries) (sym grown)
+    (kept-grown g.row.C.Denot K.projections K.scope K.fits m.fits_below m.reads_only m.fits_local m.in_store m.fits_more m.same_projections m.same_scope n.store (VariableIn c.args.range) n.contractors.items n.waiting n.readers n.entries c.self.invariant
     (subst IsStore grown c.known.ensures))

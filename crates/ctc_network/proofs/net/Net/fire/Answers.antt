@@ -1,24 +1,67 @@
-use Rattle.std.proofs.Common.{sym, subst, flat_map}
-use Rattle.ctc_network.specs.Rosters.{Members}
-use Rattle.ctc_network.specs.Nets.{NetState, IsKept}
-use Rattle.ctc_network.proofs.Keeping.{kept-fired}
-use Rattle.ctc_network.proofs.Runs.{narrowed-none, narrowed-fire}
-use Rattle.ctc_network.specs.Settling.{IsNarrowedBy}
+use Rattle.std.proofs.Common.{◌≡◌, ◌<◌, Some, List, Bool, length, sym, ap, subst, refl, ◌∙◌, slice_get, set, IfSome, false, flat_map, arith}
+use Rattle.tube_store.specs.State.{State}
+use Rattle.ctc_core.specs.Answers.{MatchRevised}
+use Rattle.ctc_network.specs.Nets.{NetState}
+use Rattle.ctc_network.specs.Settling.{Fires, IsNarrowedBy, IsWoken}
+use Rattle.ctc_network.proofs.Firing.{noted-net, noted-narrowed, noted-fires, noted-woken, noted-same, kept-table, quiet-itself, at-some}
+use Rattle.ctc_network.proofs.Waking.{inside-there}
 use Rattle.ctc_network.proofs.net.Net.fire.Goals as goal
 
 pub invariant_of-self : goal.invariant_of-self
 invariant_of-self g c =
     let K = g.C.Contractor in
+    let m = g.met.C.Contractor in
+    let T = g.row.C.Denot in
     let n = c.self.inside in
-    subst (λ (m : Members g.row.C.Denot). IsKept K.projections K.scope K.fits c.revise-answer.new.store m n.readers.counts.items n.readers.last.items n.entries) (sym c.note.ensures)
-    (kept-fired g.row.C.Denot K.projections K.scope K.fits g.met.C.Contractor.fits_below n.store c.revise-answer.new.store n.roster n.readers.counts.items n.readers.last.items n.entries c.args.id.0
-    c.get.result.now c.self.invariant c.get.ensures c.revise-answer.result c.revise-answer.ensures.revised)
+    let k = c.args.id.0 in
+    let l : k < length n.contractors.items = subst (λ (v : NetState T). k < length v.contractors) (sym c.self.view_is) c.requires in
+    let there : slice_get n.contractors.items k ≡ Some c.index.result.now = inside-there n.contractors.items k c.index.result.now l c.index.ensures in
+    let r = c.revise-answer.ensures.revised in
+    record {
+      state = noted-net T K.projections K.scope K.fits m.fits_below m.reads_only n.store c.revise-answer.new.store n.contractors.items n.waiting n.waiting k c.index.result.now c.self.invariant.state there
+          refl (quiet-itself n.waiting k) refl
+          n.readers.readers c.self.invariant.table_of.readers c.revise-answer.result c.note.new.store c.note.new.waiting r c.note.ensures;
+      table_of = kept-table K.scope n.contractors.items n.store.shape c.note.new.store.shape n.readers n.entries
+          ((noted-same T K.projections K.scope K.fits m.fits_below m.reads_only c.revise-answer.result k n.readers.readers c.revise-answer.new.store c.note.new.store n.waiting c.note.new.waiting c.note.ensures).0 ∙ r.revised.shape) c.self.invariant.table_of;
+    }
+
+pub returns-clause-fired : goal.returns-clause-fired
+returns-clause-fired g c =
+    let K = g.C.Contractor in
+    let m = g.met.C.Contractor in
+    let T = g.row.C.Denot in
+    let n = c.self.inside in
+    let k = c.args.id.0 in
+    let l : k < length n.contractors.items = subst (λ (v : NetState T). k < length v.contractors) (sym c.self.view_is) c.requires in
+    let there : slice_get n.contractors.items k ≡ Some c.index.result.now = inside-there n.contractors.items k c.index.result.now l c.index.ensures in
+    subst (λ (v : NetState T). IfSome (slice_get v.contractors k) (λ d. Fires (K.projections d v.store.shape) v.store c.note.new.store c.revise-answer.result)) c.self.view_is
+    (at-some (λ d. Fires (K.projections d n.store.shape) n.store c.note.new.store c.revise-answer.result) (slice_get n.contractors.items k) c.index.result.now there
+    (noted-fires T K.projections K.scope K.fits m.fits_below m.reads_only (K.projections c.index.result.now n.store.shape) c.revise-answer.result k n.readers.readers n.store c.revise-answer.new.store c.note.new.store n.waiting c.note.new.waiting
+    c.revise-answer.ensures.revised c.note.ensures))
 
 pub returns-clause-narrowed : goal.returns-clause-narrowed
 returns-clause-narrowed g c =
+    let K = g.C.Contractor in
+    let m = g.met.C.Contractor in
     let T = g.row.C.Denot in
-    let P = g.C.Contractor.projections in
     let n = c.self.inside in
-    let d = c.revise-answer.new.store in
-    subst (λ (v : NetState T). IsNarrowedBy (flat_map (λ k. P k v.store.shape) v.contractors) v.store d) c.self.view_is
-    (narrowed-fire (λ (k : T). P k n.store.shape) n.roster.contractors c.args.id.0 c.get.result.now n.store n.store d c.revise-answer.result c.get.ensures (narrowed-none _ n.store) c.revise-answer.ensures.revised)
+    let k = c.args.id.0 in
+    let l : k < length n.contractors.items = subst (λ (v : NetState T). k < length v.contractors) (sym c.self.view_is) c.requires in
+    let there : slice_get n.contractors.items k ≡ Some c.index.result.now = inside-there n.contractors.items k c.index.result.now l c.index.ensures in
+    subst (λ (v : NetState T). IsNarrowedBy (flat_map (λ d. K.projections d v.store.shape) v.contractors) v.store c.note.new.store) c.self.view_is
+    (noted-narrowed T K.projections K.scope K.fits m.fits_below m.reads_only n.contractors.items c.index.result.now c.revise-answer.result k n.readers.readers n.store c.revise-answer.new.store c.note.new.store n.waiting c.note.new.waiting there
+    c.revise-answer.ensures.revised c.note.ensures)
+
+pub returns-clause-waiting : goal.returns-clause-waiting
+returns-clause-waiting g c =
+    let K = g.C.Contractor in
+    let m = g.met.C.Contractor in
+    let T = g.row.C.Denot in
+    let n = c.self.inside in
+    let k = c.args.id.0 in
+    let l : k < length n.contractors.items = subst (λ (v : NetState T). k < length v.contractors) (sym c.self.view_is) c.requires in
+    let there : slice_get n.contractors.items k ≡ Some c.index.result.now = inside-there n.contractors.items k c.index.result.now l c.index.ensures in
+    let us = c.note.new.waiting in
+    subst (λ (v : NetState T). MatchRevised c.revise-answer.result (us ≡ set v.waiting k false) (IsWoken K.scope v.store.shape v.contractors v.store.box c.note.new.store.box k v.waiting us) (us ≡ v.waiting)) c.self.view_is
+    (noted-woken T K.projections K.scope K.fits m.fits_below m.reads_only n.store c.revise-answer.new.store n.contractors.items n.waiting n.waiting k c.index.result.now c.self.invariant.state there
+    refl (quiet-itself n.waiting k) refl n.readers.readers c.self.invariant.table_of.readers c.revise-answer.result c.note.new.store us c.revise-answer.ensures.revised c.note.ensures)

@@ -1,0 +1,14 @@
+//! Who reads a cell: for each cell a list of the contractors that read it, by their numbers, the last added first.
+//!
+//! All lists stand in one table of entries. An entry has the number of a contractor and the place of the entry before it in its cell's
+//! list, so that lists grow without being moved, and a walk falls from entry to entry and ends. After a firing [`wake_touched`] wakes
+//! exactly those that read a cell that became narrower.
+#![tactic(auto)]
+
+mod chain;
+mod readers;
+mod waking;
+
+pub use chain::Chain;
+pub use readers::Readers;
+pub use waking::{wake_readers, wake_touched};
