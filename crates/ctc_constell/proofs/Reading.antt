@@ -10,8 +10,8 @@ use Rattle.tube_spec.specs.Hull.{hull_below, join_option}
 use Rattle.tube_spec.specs.Shape.{Shape}
 use Rattle.tube_store.specs.declared.VarId.{VarId}
 use Rattle.ctc_core.specs.Given.{projection_at, no_projection}
-use Rattle.point_cells.specs.Points.{numbers, cells_of}
-use Rattle.point_cells.proofs.Numbers.{numbers-length, numbers-at, cells-length}
+use Rattle.tube_names.specs.Points.{numbers, cells_of}
+use Rattle.tube_names.proofs.Numbers.{numbers-length, numbers-at, cells-length}
 use Rattle.ctc_constell.specs.PointLaws.{All-tail, All-concat}
 use Rattle.ctc_constell.specs.Constellations.{mark_at, constell_projection, constell_projections_at, constell_scope}
 

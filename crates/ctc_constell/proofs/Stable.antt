@@ -13,9 +13,9 @@ use Rattle.tube_spec.proofs.Spans.{same_span, hull-holds}
 use Rattle.int_interval.specs.Inverse.{meets}
 use Rattle.interval_box.specs.Parts.{part_of}
 use Rattle.ctc_constell.specs.Points.{box_of, place_in}
-use Rattle.point_cells.specs.Points.{cells_of}
+use Rattle.tube_names.specs.Points.{cells_of}
 use Rattle.ctc_constell.specs.PointLaws.{hull-place}
-use Rattle.point_cells.specs.PointLaws.{All-each}
+use Rattle.tube_names.proofs.PointCells.{All-each}
 use Rattle.ctc_constell.specs.Constellations.{boxes_meet, left_by, mark_at, left_by_marks, constell_projection, constell_projections, ConstellFits, IsOneOf}
 
 meets-itself : (v : ℤ) → meets (point v) (point v) ≡ true

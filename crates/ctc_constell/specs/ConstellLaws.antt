@@ -13,9 +13,9 @@ use Rattle.tube_spec.proofs.Spans.{meet-mono, hull-mono, narrowing_of-mono}
 use Rattle.int_interval.specs.Inverse.{meets}
 use Rattle.interval_box.specs.Parts.{part_of}
 use Rattle.ctc_constell.specs.Points.{box_of}
-use Rattle.point_cells.specs.Points.{cells_of}
+use Rattle.tube_names.specs.Points.{cells_of}
 use Rattle.ctc_constell.specs.PointLaws.{contains-concat, marks-in, marks-same, part-mono, box-same}
-use Rattle.point_cells.specs.PointLaws.{All-each, cells-in, vars-more, cells-same}
+use Rattle.tube_names.proofs.PointCells.{All-each, cells-in, vars-more, cells-same}
 use Rattle.ctc_constell.specs.Constellations.{boxes_meet, left_by, mark_at, left_by_marks, constell_projection, constell_projections_at, constell_projections, constell_scope, ConstellFits}
 
 both-left : (a b : Bool) → (a && b) ≡ true → a ≡ true

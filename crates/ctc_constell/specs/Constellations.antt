@@ -1,6 +1,7 @@
 -- The constellation constraint: a point is one of several marks. Points and marks have one cell a coordinate.
 use Rattle.std.specs.Prelude.{◌≡◌, ◌&&◌, ℕ, ◌≤◌, ◌<◌, Bool, true, cond, Option, Some, None, List, [], ◌∷◌, ◌++◌, length, All, Contains, map, slice_index, slice_index_or}
 use Rattle.std.specs.List.{range_with_len, concat}
+use Rattle.tube_spec.specs.Limits.{most_variables}
 use Rattle.tube_spec.specs.Span.{Span, meet_of}
 use Rattle.tube_spec.specs.Hull.{hull_below}
 use Rattle.tube_spec.specs.Narrowing.{narrowing_of}
@@ -10,7 +11,7 @@ use Rattle.tube_spec.specs.Assignment.{Assignment}
 use Rattle.int_interval.specs.Inverse.{meets}
 use Rattle.interval_box.specs.Parts.{part_of}
 use Rattle.ctc_constell.specs.Points.{box_of, place_in}
-use Rattle.point_cells.specs.Points.{cells_of}
+use Rattle.tube_names.specs.Points.{cells_of}
 
 -- two boxes share a point: they share a number in each coordinate
 abbrev pub boxes_meet : List Span → List Span → Bool
@@ -50,7 +51,7 @@ pub record ConstellFits (s : Shape) (p : List ℕ) (marks : List (List ℕ)) : T
   pub some : 2 ≤ length p
   pub few : length p ≤ 3
   pub some_marks : 1 ≤ length marks
-  pub few_marks : length marks ≤ 200000
+  pub few_marks : length marks ≤ most_variables
   pub alike : All (λ mark. length mark ≡ length p) marks
   pub point : All (λ v. v < length s.vars) p
   pub named : All (λ mark. All (λ v. v < length s.vars) mark) marks

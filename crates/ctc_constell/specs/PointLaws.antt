@@ -9,8 +9,8 @@ use Rattle.tube_spec.specs.Assignment.{Assignment, IsHull}
 use Rattle.tube_spec.proofs.Spans.{IsWithin-refl}
 use Rattle.interval_box.specs.Parts.{part_of}
 use Rattle.ctc_constell.specs.Points.{box_of, place_in}
-use Rattle.point_cells.specs.Points.{cells_of}
-use Rattle.point_cells.specs.PointLaws.{cells-in, cells-same}
+use Rattle.tube_names.specs.Points.{cells_of}
+use Rattle.tube_names.proofs.PointCells.{cells-in, cells-same}
 use Rattle.ctc_constell.specs.Constellations.{mark_at}
 
 -- what holds of the elements of each list holds of those of all

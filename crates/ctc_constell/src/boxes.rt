@@ -1,8 +1,10 @@
+//! The boxes of points.
+
 ghost use Rattle.std.specs.Prelude.{◌≡◌, ◌<◌, ◌≤◌, IsSome, IfSome, All, length, slice_index};
 ghost use Rattle.tube_spec.specs.Box.{cell_at};
 ghost use Rattle.tube_spec.specs.Hull.{join_option};
 ghost use Rattle.ctc_constell.specs.Points.{box_of};
-ghost use Rattle.point_cells.specs.Points.{numbers, cells_of};
+ghost use Rattle.tube_names.specs.Points.{numbers, cells_of};
 ghost use Rattle.ctc_constell.specs.Constellations.{left_by};
 
 use int_interval::Interval;

@@ -1,7 +1,10 @@
+//! The contractor of a point that is one of several marks.
+
 ghost use Rattle.std.specs.Prelude.{◌≡◌, ◌+◌, ◌*◌, ◌++◌, ◌<◌, ◌≤◌, IsSome, IfSome, All, length, map, slice_index};
 ghost use Rattle.std.specs.List.{concat};
-ghost use Rattle.point_cells.specs.Points.{numbers, cells_of};
+ghost use Rattle.tube_names.specs.Points.{numbers, cells_of};
 ghost use Rattle.ctc_constell.specs.Constellations.{ConstellFits, left_by_marks};
+ghost use Rattle.tube_spec.specs.Limits.{most_variables};
 
 use super::boxes::{box_of, join, left_by};
 use ctc_core::{Contractor, Formulas, Given, Revised, revise_by_formulas, still_by_formulas};
@@ -25,7 +28,7 @@ impl<const N: usize> ConstellCtc<N> {
         requires some { 2 ≤ N }
         requires few { N ≤ 3 }
         requires some_marks { 1 ≤ length marks.items }
-        requires few_marks { length marks.items ≤ 200000 }
+        requires few_marks { length marks.items ≤ most_variables }
         ensures { result ≡ record { p = p.entry; marks = marks.entry } }
     {
         ConstellCtc { p, marks }
@@ -64,7 +67,7 @@ impl<const N: usize> ConstellCtc<N> {
 }
 
 impl<const N: usize> Formulas for ConstellCtc<N> {
-    ghost use Rattle.point_cells.specs.Points.{numbers};
+    ghost use Rattle.tube_names.specs.Points.{numbers};
     ghost use Rattle.ctc_constell.specs.Constellations.{constell_projections, ConstellFits};
     ghost use Rattle.ctc_constell.specs.ConstellLaws.{constell-monotone, constell-in_store};
 
@@ -95,7 +98,7 @@ impl<const N: usize> Formulas for ConstellCtc<N> {
 }
 
 impl<const N: usize> Contractor for ConstellCtc<N> {
-    ghost use Rattle.point_cells.specs.Points.{numbers};
+    ghost use Rattle.tube_names.specs.Points.{numbers};
     ghost use Rattle.ctc_constell.specs.Constellations.{constell_projections, constell_scope, ConstellFits};
     ghost use Rattle.ctc_constell.specs.ConstellLaws.{constell-monotone, constell-reads_only, constell-in_store, constell-fits_more, constell-same_projections, constell-same_scope};
 

@@ -1,18 +1,21 @@
-ghost use Rattle.std.specs.Prelude.{◌≡◌, ◌<◌, IsSome, pos};
+//! A projection fired: its target held by what its formula gives.
+
+ghost use Rattle.std.specs.Prelude.{◌≡◌, ◌+◌, ◌<◌, IsSome, pos};
+ghost use Rattle.tube_spec.specs.Limits.{greatest_bound};
 ghost use Rattle.tube_spec.specs.Span.{point};
 ghost use Rattle.ctc_core.specs.Answers.{HoldsBy};
 ghost use Rattle.ctc_core.specs.Checking.{ChecksBy};
 
 use super::Revised;
 use int_interval::Interval;
-use tube_store::{CellId, Store};
+use tube_store::{CellId, GREATEST_BOUND, Store};
 
 // One above every number that a cell of a store may have.
-const NOWHERE: i64 = 500_000_001;
+const NOWHERE: i64 = GREATEST_BOUND + 1;
 
 // A number that no cell of a store has.
 fn nowhere() -> Interval
-    ensures { result ≡ point (pos 500000001) }
+    ensures { result ≡ point (pos (greatest_bound + 1)) }
 {
     Interval::new(NOWHERE, NOWHERE).unwrap()
 }

@@ -1,3 +1,5 @@
+//! The laws of a firing.
+
 ghost use Rattle.std.specs.Prelude.{◌≡◌, ◌++◌, ℕ, List, Some, IsNone, IsSome, IsSomeAnd, IfSome, All, Any};
 ghost use Rattle.tube_spec.specs.Span.{Span};
 ghost use Rattle.tube_spec.specs.Box.{cell_at, IsBelowBox};

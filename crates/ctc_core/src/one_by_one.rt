@@ -1,3 +1,5 @@
+//! A firing made of projections held one by one, and the check that none would narrow.
+
 ghost use Rattle.std.specs.Prelude.{◌≡◌, ◌<◌, ℕ, List, Option, [], ◌∷◌, IsTrue, IsFalse, IsSome, IfSome, IsSomeAnd, Some, All, length};
 ghost use Rattle.tube_spec.specs.Span.{Span};
 ghost use Rattle.tube_spec.specs.Shape.{Shape, IsShape};

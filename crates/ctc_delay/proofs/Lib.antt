@@ -1,4 +1,5 @@
 pub mod PlaceTicks
+pub mod Strides
 pub mod Counts
 pub mod Formulas
 pub mod DelayHulls

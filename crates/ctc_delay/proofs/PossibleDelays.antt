@@ -5,6 +5,8 @@ use Rattle.std.proofs.lemmas.Int.{ints}
 use Rattle.tube_spec.specs.Span.{Span, IsProper, IsBounded, point, meet_of}
 use Rattle.tube_spec.specs.Hull.{hull_below, IsWithinOption}
 use Rattle.tube_spec.specs.Grid.{last_tick}
+use Rattle.tube_spec.specs.Box.{cell_at}
+use Rattle.tube_spec.specs.Tick.{tick_place}
 use Rattle.tube_spec.proofs.Spans.{same_span}
 use Rattle.int_interval.proofs.Hulls.{same_hull}
 use Rattle.ctc_delay.specs.Delays.{lies_in, at_tick_from, passes_over, is_possible}
@@ -96,14 +98,20 @@ made-of_both tau last p lo hi are few least greatest first end made a b ea eb is
     some-value made span some is ∙ ap Some (same_span span (record { lo = pos least; hi = pos greatest }) ea eb)
     ∙ least-to-greatest tau last p lo hi are least greatest first end
 
--- the two signals share a number at one more tick
-pub shares-more : (grid : List ℕ) (xs : List Span) (x y d tick : ℕ) (before now : Span) → before ≡ at_tick_from grid xs x (tick - d) → now ≡ at_tick_from grid xs y tick → IsProper (meet_of before now)
+-- the two signals share a number as long as both stand at their places
+pub shares-on : (grid : List ℕ) (xs : List Span) (x y d tick next b n : ℕ) (before now : Span) → before ≡ cell_at xs (x + b) → now ≡ cell_at xs (y + n) → IsProper (meet_of before now)
+    → ((k : ℕ) → tick ≤ k → k < next → (tick_place grid (k - d) ≡ b) × (tick_place grid k ≡ n))
     → ((k : ℕ) → d ≤ k → k < tick → meets (at_tick_from grid xs x (k - d)) (at_tick_from grid xs y k) ≡ true)
-    → (k : ℕ) → d ≤ k → k < tick + 1 → meets (at_tick_from grid xs x (k - d)) (at_tick_from grid xs y k) ≡ true
-shares-more grid xs x y d tick before now eb en meet earlier k low high = elim (cases_lt k tick) [
+    → (k : ℕ) → d ≤ k → k < next → meets (at_tick_from grid xs x (k - d)) (at_tick_from grid xs y k) ≡ true
+shares-on grid xs x y d tick next b n before now eb en meet still earlier k low high = elim (cases_lt k tick) [
   | inl l ↦ earlier k low l
   | inr l ↦
-      let same : tick ≡ k = omega (arith, l, high) in
-      let here = subst (λ (s : Span). meets s now ≡ true) eb (proper-shares before now meet) in
-      subst (λ (j : ℕ). meets (at_tick_from grid xs x (j - d)) (at_tick_from grid xs y j) ≡ true) same (subst (λ (s : Span). meets (at_tick_from grid xs x (tick - d)) s ≡ true) en here)
+      let at = still k l high in
+      let left : before ≡ at_tick_from grid xs x (k - d) = eb ∙ ap (λ (p : ℕ). cell_at xs (x + p)) (sym at.0) in
+      let right : now ≡ at_tick_from grid xs y k = en ∙ ap (λ (p : ℕ). cell_at xs (y + p)) (sym at.1) in
+      subst (λ (s : Span). meets s (at_tick_from grid xs y k) ≡ true) left (subst (λ (s : Span). meets before s ≡ true) right (proper-shares before now meet))
 ]
+
+-- the cell at the place of a tick is what the signal may be there
+pub cell-at : (grid : List ℕ) (xs : List Span) (x k place : ℕ) (held : Span) → held ≡ cell_at xs (x + place) → place ≡ tick_place grid k → held ≡ at_tick_from grid xs x k
+cell-at grid xs x k place held e there = e ∙ ap (λ (p : ℕ). cell_at xs (x + p)) there

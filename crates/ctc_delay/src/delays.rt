@@ -1,4 +1,7 @@
+//! The delays that a variable allows, in ticks.
+
 ghost use Rattle.std.specs.Prelude.{◌≡◌, ◌+◌, ◌-◌, ◌<◌, ◌≤◌, ◌≤ℤ◌, ◌+ℤ◌, pos, length, slice_index, MatchOption, IsSome, IfSome};
+ghost use Rattle.tube_spec.specs.Limits.{most_ticks};
 ghost use Rattle.tube_spec.specs.Narrowing.{narrowing_of};
 ghost use Rattle.tube_spec.specs.Grid.{last_tick};
 ghost use Rattle.ctc_core.specs.Given.{narrowing_given};
@@ -19,7 +22,7 @@ pub struct Delays {
 
 /// The delays: the whole numbers that lie both in `tau` and in `0..last`.
 pub fn delays_in(tau: Interval, last: u32) -> Option<Delays>
-    requires { last ≤ 100000 }
+    requires { last ≤ most_ticks }
     ensures { MatchOption result (AreNoDelays tau last) (λ r. AreDelays tau last r.least r.greatest) }
 {
     let least = tau.lo().max(0);

@@ -1,3 +1,5 @@
+//! The contractor of the earlier signal, from the later one.
+
 ghost use Rattle.std.specs.Prelude.{◌≡◌};
 
 use super::delays::{given_of, later};

@@ -1,7 +1,12 @@
-ghost use Rattle.std.specs.Prelude.{◌≡◌, ◌+◌, ◌<◌, ◌≤◌, length, slice_index};
-ghost use Rattle.tube_spec.specs.Grid.{last_tick};
-ghost use Rattle.ctc_delay.specs.Places.{place_count, place_first, place_last};
+//! The ticks of the cells of a signal.
 
+ghost use Rattle.std.specs.Prelude.{◌≡◌, ◌+◌, ◌<◌, ◌≤◌, ℕ, length, slice_index, IsSome, IfSome};
+ghost use Rattle.tube_spec.specs.Grid.{last_tick};
+ghost use Rattle.tube_spec.specs.Box.{cell_at};
+ghost use Rattle.tube_spec.specs.Tick.{tick_place};
+ghost use Rattle.ctc_delay.specs.Places.{place_count, place_first, place_last, place_end};
+
+use int_interval::Interval;
 use tube_store::{CellId, SignalId, Store};
 
 /// The ticks of a cell, the first and the last of them.
@@ -45,5 +50,52 @@ pub fn ticks_at(store: &Store, place: u32) -> Ticks
     Ticks {
         first: grid.boundary(place / 2),
         last: grid.boundary((place + 1) / 2),
+    }
+}
+
+/// The interval of the cell of a signal at a place.
+pub fn interval_at(store: &Store, signal: SignalId, place: u32) -> Interval
+    requires signal { signal.0 < length store.now.shape.signals }
+    requires place { place < place_count store.now.shape.grid }
+    requires filled { IsSome store.now.box }
+    ensures { IfSome store.now.box (λ xs. result ≡ cell_at xs (slice_index store.now.shape.signals signal.0 + place)) }
+{
+    store.get(cell_at_place(store, signal, place))
+}
+
+/// The first tick after those that stand at a place.
+pub fn place_end(store: &Store, place: u32) -> u32
+    requires { place < place_count store.now.shape.grid }
+    ensures end { result ≡ place_end store.now.shape.grid place }
+    ensures few { result ≤ 100001 }
+{
+    store.known();
+    let ticks = ticks_at(store, place);
+    ticks.last + (1 - place % 2)
+}
+
+/// The place of a tick, from that of a tick before it, without a search: that one still, or where the tick is the first after those that stand
+/// there, the next one that a tick stands at.
+pub fn place_on(store: &Store, place: u32, tick: u32) -> u32
+    requires { place < place_count store.now.shape.grid }
+    ensures among { result < place_count store.now.shape.grid }
+    ensures there { let grid = store.now.shape.grid in
+        (from : ℕ) → place ≡ tick_place grid from → from ≤ tick → tick ≤ place_end grid place → tick ≤ last_tick grid → result ≡ tick_place grid tick }
+{
+    store.known();
+    if tick < place_end(store, place) {
+        return place;
+    }
+    if place % 2 == 1 {
+        return place + 1;
+    }
+    let slice = place / 2;
+    if slice >= store.slices() {
+        return place;
+    }
+    if store.grid().boundary(slice + 1) == tick {
+        place + 2
+    } else {
+        place + 1
     }
 }

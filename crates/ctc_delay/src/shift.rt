@@ -1,3 +1,5 @@
+//! The contractor of the delay itself.
+
 ghost use Rattle.std.specs.Prelude.{◌≡◌};
 
 use super::delays::given_of;

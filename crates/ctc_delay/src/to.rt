@@ -1,3 +1,5 @@
+//! The contractor of the later signal, from the earlier one.
+
 ghost use Rattle.std.specs.Prelude.{◌≡◌};
 
 use super::delays::{earlier, given_of};

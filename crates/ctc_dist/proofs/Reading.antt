@@ -11,8 +11,8 @@ use Rattle.tube_spec.specs.Shape.{Shape}
 use Rattle.tube_spec.specs.Projection.{Projection}
 use Rattle.tube_store.specs.declared.VarId.{VarId}
 use Rattle.ctc_core.specs.Given.{projection_at, no_projection}
-use Rattle.point_cells.specs.Points.{numbers, cells_of}
-use Rattle.point_cells.proofs.Numbers.{cells-length}
+use Rattle.tube_names.specs.Points.{numbers, cells_of}
+use Rattle.tube_names.proofs.Numbers.{cells-length}
 use Rattle.ctc_dist.specs.Distances.{span_sum_below, dimension, forth, back, dist_projections_at}
 
 pub dimension-is : (s : Shape) (p b : List VarId) (n : ℕ) → length p ≡ n → length b ≡ n → dimension (cells_of s (numbers p)) (cells_of s (numbers b)) ≡ n

@@ -13,7 +13,7 @@ use Rattle.int_interval.specs.Image.{sqr_of}
 use Rattle.int_interval.proofs.Images.{sqr-holds}
 use Rattle.int_interval.proofs.Inverses.{back_sqr-holds}
 use Rattle.int_interval.proofs.Monotone.{add-holds, sub-holds}
-use Rattle.point_cells.specs.Points.{cells_of}
+use Rattle.tube_names.specs.Points.{cells_of}
 use Rattle.ctc_dist.specs.PointLaws.{hull-at}
 use Rattle.ctc_dist.specs.Distances.{sum_below, span_sum_below, squares_from, dimension, difference, square_but, other_squares, offset_of, forth, back, dist_projections_at, dist_projections, DistFits, difference_in, IsAtDistance}
 use Rattle.ctc_dist.specs.DistLaws.{dist-each}

@@ -12,9 +12,9 @@ use Rattle.int_interval.specs.Image.{sqr_of}
 use Rattle.int_interval.specs.Inverse.{back_sqr_of}
 use Rattle.int_interval.proofs.Monotone.{sqr-mono, sub-proper}
 use Rattle.int_interval.proofs.Inverses.{back_sqr-mono}
-use Rattle.point_cells.specs.Points.{cells_of}
+use Rattle.tube_names.specs.Points.{cells_of}
 use Rattle.ctc_dist.specs.PointLaws.{contains-at}
-use Rattle.point_cells.specs.PointLaws.{All-each, cells-in, vars-more, cells-same}
+use Rattle.tube_names.proofs.PointCells.{All-each, cells-in, vars-more, cells-same}
 use Rattle.ctc_dist.specs.Distances.{span_sum_below, squares_from, dimension, difference, square_but, other_squares, offset_of, forth, back, dist_projections_at, dist_projections, dist_scope, DistFits}
 
 span_sum-mono : (f g : ℕ → Span) (n : ℕ) → ((k : ℕ) → IsWithin (f k) (g k)) → IsWithin (span_sum_below f n) (span_sum_below g n)

@@ -1,6 +1,7 @@
 -- The distance constraint: the distance of two points lies from near to far. A point has one cell a coordinate.
 use Rattle.std.specs.Prelude.{◌≡◌, ℕ, zero, suc, ◌≤◌, ◌<◌, nat_eq, cond, min, Option, option_map, List, ◌++◌, length, All, map, slice_index, ℤ, pos, ◌+ℤ◌, ◌-ℤ◌, ◌*ℤ◌, ◌≤ℤ◌}
 use Rattle.std.specs.List.{range_with_len}
+use Rattle.tube_spec.specs.Limits.{greatest_radius}
 use Rattle.tube_spec.specs.Span.{Span, Holds, point, add_of, sub_of}
 use Rattle.tube_spec.specs.Narrowing.{narrowing_of}
 use Rattle.tube_spec.specs.Shape.{Shape}
@@ -9,7 +10,7 @@ use Rattle.tube_spec.specs.Projection.{Projection}
 use Rattle.tube_spec.specs.Assignment.{Assignment, number_of}
 use Rattle.int_interval.specs.Image.{sqr_of}
 use Rattle.int_interval.specs.Inverse.{back_sqr_of}
-use Rattle.point_cells.specs.Points.{cells_of}
+use Rattle.tube_names.specs.Points.{cells_of}
 
 -- f 0 + f 1 and so on below n: of numbers, and of spans
 abbrev pub sum_below : (ℕ → ℤ) → ℕ → ℤ
@@ -73,7 +74,7 @@ pub record DistFits (s : Shape) (p b : List ℕ) (near far : ℤ) : Type 0 where
   pub other : All (λ v. v < length s.vars) b
   pub from_zero : pos 0 ≤ℤ near
   pub in_order : near ≤ℤ far
-  pub bounded : far ≤ℤ pos 2000000000
+  pub bounded : far ≤ℤ pos greatest_radius
 
 -- what two points of an assignment differ by in a coordinate
 abbrev pub difference_in : Assignment → List ℕ → List ℕ → ℕ → ℤ

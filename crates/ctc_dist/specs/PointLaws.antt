@@ -6,7 +6,7 @@ use Rattle.tube_spec.specs.Shape.{Shape}
 use Rattle.tube_spec.specs.Box.{cell_at}
 use Rattle.tube_spec.specs.Assignment.{Assignment, number_of, IsHull}
 use Rattle.tube_spec.specs.Span.{Span, point}
-use Rattle.point_cells.specs.Points.{cells_of}
+use Rattle.tube_names.specs.Points.{cells_of}
 
 pub contains-at : (xs : List ℕ) (i : ℕ) → i < length xs → Contains xs (slice_index xs i)
 contains-at xs i l = Contains-get_or xs i 0 l

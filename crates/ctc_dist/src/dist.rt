@@ -1,8 +1,11 @@
+//! The contractor of a distance between two points.
+
 ghost use Rattle.std.specs.Prelude.{◌≡◌, ◌+◌, ◌++◌, ◌<◌, ◌≤◌, ◌≤ℤ◌, IsSome, IfSome, length, slice_index, pos};
+ghost use Rattle.tube_spec.specs.Limits.{greatest_bound, greatest_radius};
 ghost use Rattle.tube_spec.specs.Span.{IsBounded, IsWithin};
 ghost use Rattle.tube_spec.specs.Box.{cell_at};
 ghost use Rattle.ctc_core.specs.Given.{narrowing_given};
-ghost use Rattle.point_cells.specs.Points.{numbers, cells_of};
+ghost use Rattle.tube_names.specs.Points.{numbers, cells_of};
 ghost use Rattle.ctc_dist.specs.Distances.{DistFits, difference, square_but, other_squares, offset_of, squares_from, forth, back};
 
 use super::squares::{square, squares, zero};
@@ -30,7 +33,7 @@ fn value(store: &Store, var: VarId) -> Interval
     requires named { var.0 < length store.now.shape.vars }
     requires filled { IsSome store.now.box }
     ensures value { IfSome store.now.box (λ xs. result ≡ cell_at xs (slice_index store.now.shape.vars var.0)) }
-    ensures bounded { IsBounded 500000000 result }
+    ensures bounded { IsBounded greatest_bound result }
 {
     store.get(store.var(var))
 }
@@ -42,7 +45,7 @@ impl<const N: usize> DistCtc<N> {
         requires few { N ≤ 3 }
         requires from_zero { pos 0 ≤ℤ near }
         requires in_order { near ≤ℤ far }
-        requires bounded { far ≤ℤ pos 2000000000 }
+        requires bounded { far ≤ℤ pos greatest_radius }
         ensures { result ≡ record { p = p.entry; b = b.entry; near = near; far = far } }
     {
         DistCtc { p, b, near, far }
@@ -140,7 +143,7 @@ impl<const N: usize> DistCtc<N> {
 }
 
 impl<const N: usize> Formulas for DistCtc<N> {
-    ghost use Rattle.point_cells.specs.Points.{numbers};
+    ghost use Rattle.tube_names.specs.Points.{numbers};
     ghost use Rattle.ctc_dist.specs.Distances.{dist_projections, DistFits};
     ghost use Rattle.ctc_dist.specs.DistLaws.{dist-monotone, dist-in_store};
 
@@ -173,7 +176,7 @@ impl<const N: usize> Formulas for DistCtc<N> {
 }
 
 impl<const N: usize> Contractor for DistCtc<N> {
-    ghost use Rattle.point_cells.specs.Points.{numbers};
+    ghost use Rattle.tube_names.specs.Points.{numbers};
     ghost use Rattle.ctc_dist.specs.Distances.{dist_projections, dist_scope, DistFits};
     ghost use Rattle.ctc_dist.specs.DistLaws.{dist-monotone, dist-reads_only, dist-in_store, dist-fits_more, dist-same_projections, dist-same_scope};
 

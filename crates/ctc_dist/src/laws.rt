@@ -1,3 +1,5 @@
+//! What a distance leaves whole: the hull of every assignment that satisfies it.
+
 ghost use Rattle.std.specs.Prelude.{ℕ, ℤ, List, All};
 ghost use Rattle.tube_spec.specs.Span.{Span};
 ghost use Rattle.tube_spec.specs.Shape.{Shape};

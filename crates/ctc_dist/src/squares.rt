@@ -1,4 +1,7 @@
+//! Squares of differences and of distances, forward and backward.
+
 ghost use Rattle.std.specs.Prelude.{◌≡◌, ◌≤ℤ◌, pos};
+ghost use Rattle.tube_spec.specs.Limits.{greatest_radius, interval_bound};
 ghost use Rattle.tube_spec.specs.Span.{IsBounded, IsWithin, point};
 ghost use Rattle.int_interval.specs.Image.{sqr_of};
 ghost use Rattle.ctc_dist.specs.Distances.{squares_from};
@@ -28,9 +31,9 @@ pub fn square(difference: Interval) -> Interval
 pub fn squares(near: i64, far: i64) -> Interval
     requires from_zero { pos 0 ≤ℤ near }
     requires in_order { near ≤ℤ far }
-    requires bounded { far ≤ℤ pos 2000000000 }
+    requires bounded { far ≤ℤ pos greatest_radius }
     ensures value { result ≡ squares_from near far }
-    ensures bounded { IsWithin result (record { lo = pos 0; hi = pos 4000000000000000000 }) }
+    ensures bounded { IsWithin result (record { lo = pos 0; hi = pos interval_bound }) }
 {
     let distances = Interval::new(near, far).unwrap();
     distances.sqr().unwrap()

@@ -1,13 +1,17 @@
 -- What each projection of an evaluation holds, by its number in the code.
-use Rattle.std.specs.Prelude.{ℕ, ◌<◌, Option, length}
+use Rattle.std.specs.Prelude.{◌≡◌, ℕ, ◌+◌, ◌<◌, ◌≤◌, List, Option, IfSome, length}
 use Rattle.std.specs.Option.{option_map}
+use Rattle.tube_spec.specs.Limits.{most_ticks}
 use Rattle.tube_spec.specs.Span.{Span}
 use Rattle.tube_spec.specs.Shape.{Shape}
 use Rattle.tube_spec.specs.Projection.{Projection}
 use Rattle.tube_store.specs.declared.SignalId.{SignalId}
 use Rattle.ctc_eval.specs.declared.eval.Held.{Held}
 use Rattle.ctc_eval.specs.declared.eval.Held.TheVariants.{Value, Time, Gate, Reached}
-use Rattle.ctc_eval.specs.Evals.{value_projection, time_projection, gate_projection, reached_projection}
+use Rattle.ctc_eval.specs.declared.eval.Placed.{Placed}
+use Rattle.slice_gates.specs.Near.{near_of}
+use Rattle.slice_gates.specs.declared.near.Near.{Near}
+use Rattle.ctc_eval.specs.Evals.{EvalFits, eval_projections, value_projection, time_projection, gate_projection, reached_projection}
 
 -- the number of a rate's signal
 abbrev pub rate_of : Option SignalId → Option ℕ
@@ -26,3 +30,19 @@ IsOfShape s Value = Unit {0}
 IsOfShape s Time = Unit {0}
 IsOfShape s (Gate gate) = gate < length s.grid
 IsOfShape s (Reached rate gate) = (gate < length s.grid) × (rate.0 < length s.signals)
+
+-- these are the slices that share a tick with the range, in order and of a grid
+pub record IsFound (grid : List ℕ) (range : Span) (near : Option Near) : Type 0 where
+  pub value : near ≡ near_of grid range
+  pub order : IfSome near (λ n. n.first ≤ n.last)
+  pub few : IfSome near (λ n. n.last ≤ most_ticks)
+  pub among : IfSome near (λ n. n.last + 1 < length grid)
+
+-- the projections of an evaluation whose slices are found
+abbrev pub placed_projections : Shape → Placed → List Projection
+placed_projections s p = eval_projections s p.ctc.x.0 (rate_of p.ctc.rate) p.ctc.t.0 p.ctc.z.0 p.ctc.declared
+
+-- it fits the shape, and its slices are those of the shape's grid
+pub record PlacedFits (s : Shape) (p : Placed) : Type 0 where
+  pub fits : EvalFits s p.ctc.x.0 (rate_of p.ctc.rate) p.ctc.t.0 p.ctc.z.0
+  pub found : IsFound s.grid p.ctc.declared p.near

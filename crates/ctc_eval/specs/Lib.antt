@@ -1,9 +1,10 @@
 pub mod Clock
 pub mod Gains
-pub mod Near
 pub mod Evals
+pub mod Walks
+pub mod Blocks
 pub mod Held
 pub mod ClockLaws
 pub mod GainLaws
-pub mod NearLaws
 pub mod EvalLaws
+pub mod BlockLaws

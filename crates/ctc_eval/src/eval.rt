@@ -1,18 +1,27 @@
-ghost use Rattle.std.specs.Prelude.{◌≡◌, ◌+◌, ◌<◌, ◌≤◌, IsSome, IfSome, length, slice_index};
+//! The contractor of a variable that is the value of a signal at a time.
+
+ghost use Rattle.std.specs.Prelude.{◌≡◌, ◌+◌, ◌<◌, ◌≤◌, IsSome, IfSome, None, ℕ, length, map, slice_index, slice_index_or};
+ghost use Rattle.std.specs.List.{range_with_len};
+ghost use Rattle.ctc_core.specs.Answers.{Revises};
+ghost use Rattle.tube_spec.specs.Limits.{most_ticks};
 ghost use Rattle.tube_spec.specs.Grid.{last_tick};
 ghost use Rattle.tube_spec.specs.Narrowing.{narrowing_of};
 ghost use Rattle.ctc_core.specs.Given.{projection_at, narrowing_given};
-ghost use Rattle.ctc_eval.specs.Clock.{ticks_of, cells_of};
-ghost use Rattle.ctc_eval.specs.Near.{near_of, places_of};
-ghost use Rattle.ctc_eval.specs.Evals.{EvalFits, cells_near, eval_projections, time_of, value_hull, time_hull, gate_narrowing, reached_hull};
-ghost use Rattle.ctc_eval.specs.Held.{IsOfShape, projection_of, rate_of};
+ghost use Rattle.ctc_eval.specs.Clock.{cells_of};
+ghost use Rattle.slice_gates.specs.Clock.{ticks_of};
+ghost use Rattle.slice_gates.specs.Near.{near_of, gates_of, places_of};
+ghost use Rattle.ctc_eval.specs.Evals.{EvalFits, cells_near, eval_projections, time_of, value_hull, time_hull, gate_narrowing, reached_hull, reached_projection};
+ghost use Rattle.ctc_eval.specs.Held.{IsFound, IsOfShape, PlacedFits, projection_of, rate_of};
 
-use super::clock::{Ticks, ticks_in};
-use super::near::{Near, first, gates, near_in, places};
+use super::block::{Block, given_of, hulls_whole};
+use super::near::{first, gates, places};
 use super::readings::variable;
 use super::sweep::Sweep;
-use ctc_core::{Contractor, Formulas, Given, Revised, revise_by_formulas, still_by_formulas};
+use ctc_core::{
+    Contractor, Formulas, Given, Revised, revise_by_formulas, start, still_by_formulas,
+};
 use int_interval::Interval;
+use slice_gates::{Near, Ticks, near_in, ticks_in};
 use std::sync::ledger::Ledger;
 use step_count::Steps;
 use tube_store::{CellId, SignalId, Store, VarId};
@@ -43,16 +52,6 @@ enum Held {
     Reached(SignalId, u32),
 }
 
-// A hull as what a formula gives.
-fn given_of(hull: Option<Interval>) -> Given
-    ensures { narrowing_given result ≡ narrowing_of hull }
-{
-    match hull {
-        Some(hull) => Given::Within(hull),
-        None => Given::Nothing,
-    }
-}
-
 impl EvalCtc {
     /// The contractor of the value `z` of the signal `x` at the time `t`, whose declared range is `declared`; with the rate of `x`, if it has one.
     pub fn new(
@@ -78,7 +77,8 @@ impl EvalCtc {
         ensures value { result ≡ near_of store.now.shape.grid self.now.declared }
         ensures order { IfSome result (λ near. near.first ≤ near.last) }
         ensures among { IfSome result (λ near. near.last + 1 < length store.now.shape.grid) }
-        ensures few { IfSome result (λ near. near.last ≤ 100000) }
+        ensures few { IfSome result (λ near. near.last ≤ most_ticks) }
+        ensures found { IsFound store.now.shape.grid self.now.declared result }
     {
         store.known();
         near_in(store.grid(), self.declared)
@@ -106,8 +106,21 @@ impl EvalCtc {
         }
     }
 
-    // What the projection with a number holds.
-    fn held(&self, store: &Store, i: u32) -> Held
+    // With its slices, which hold as long as the store has its grid.
+    fn placed(&self, store: &Store) -> Placed
+        requires fits { EvalFits store.now.shape self.now.x.0 (rate_of self.now.rate) self.now.t.0 self.now.z.0 }
+        ensures same { result.ctc ≡ self.now }
+        ensures fits { PlacedFits store.now.shape result }
+    {
+        Placed {
+            ctc: *self,
+            near: self.near(store),
+        }
+    }
+
+    // What the projection with a number holds, by the slices that share a tick with the declared range.
+    fn held(&self, store: &Store, near: Option<Near>, i: u32) -> Held
+        requires found { IsFound store.now.shape.grid self.now.declared near }
         requires fits { EvalFits store.now.shape self.now.x.0 (rate_of self.now.rate) self.now.t.0 self.now.z.0 }
         requires below { let c = self.now in i < length (eval_projections store.now.shape c.x.0 (rate_of c.rate) c.t.0 c.z.0 c.declared) }
         ensures projection { let c = self.now in projection_at (eval_projections store.now.shape c.x.0 (rate_of c.rate) c.t.0 c.z.0 c.declared) i ≡ projection_of store.now.shape c.x.0 c.t.0 c.z.0 c.declared result }
@@ -119,7 +132,6 @@ impl EvalCtc {
         if i == 1 {
             return Held::Time;
         }
-        let near = self.near(store);
         let gate = i - 2;
         let count = gates(near);
         match self.rate {
@@ -193,6 +205,102 @@ impl EvalCtc {
         }
     }
 
+    // What the formulas of some gates give by the rate, at most sixteen one after another.
+    fn hulls(&self, store: &Store, rate: SignalId, first: u32, count: u32) -> [Option<Interval>; 17]
+        requires fits { EvalFits store.now.shape self.now.x.0 (rate_of self.now.rate) self.now.t.0 self.now.z.0 }
+        requires rate { rate.0 < length store.now.shape.signals }
+        requires some { 0 < count }
+        requires few { count ≤ 16 }
+        requires gates { first + count ≤ length store.now.shape.grid }
+        requires filled { IsSome store.now.box }
+        ensures room { length result ≡ 17 }
+        ensures value { (k : ℕ) → k < count → slice_index_or result k None ≡ reached_hull store.now.shape self.now.x.0 rate.0 self.now.t.0 self.now.z.0 self.now.declared (first + k) (cells_of store.now.box) }
+    {
+        let sweep = Sweep {
+            x: self.x,
+            z: self.z,
+        };
+        match self.ticks(store) {
+            Some(ticks) => hulls_whole(&sweep, store, rate, ticks, first, count),
+            None => [None; 17],
+        }
+    }
+
+    // Fires the projections of these gates, each by what its formula gives before the first of them is narrowed.
+    fn revise_block(&self, store: &mut Store, rate: SignalId, first: u32, count: u32) -> Revised
+        requires fits { EvalFits store.old.shape self.now.x.0 (rate_of self.now.rate) self.now.t.0 self.now.z.0 }
+        requires rate { rate.0 < length store.old.shape.signals }
+        requires some { 0 < count }
+        requires few { count ≤ 16 }
+        requires gates { first + count ≤ length store.old.shape.grid }
+        ensures { Revises (map (reached_projection store.old.shape self.now.x.0 rate.0 self.now.t.0 self.now.z.0 self.now.declared) (range_with_len first count)) store.old store.new result }
+    {
+        store.known();
+        if store.is_empty() {
+            return Revised::Empty;
+        }
+        let hulls = self.hulls(store, rate, first, count);
+        let block = Block {
+            x: self.x,
+            first,
+            count,
+            hulls,
+        };
+        revise_by_formulas(&block, store)
+    }
+
+    // Fires the projections of each gate by the rate, sixteen gates at a time.
+    fn revise_reached(&self, store: &mut Store, rate: SignalId, near: Option<Near>) -> Revised
+        requires fits { EvalFits store.old.shape self.now.x.0 (rate_of self.now.rate) self.now.t.0 self.now.z.0 }
+        requires rate { rate.0 < length store.old.shape.signals }
+        requires found { IsFound store.old.shape.grid self.now.declared near }
+        ensures { Revises (map (reached_projection store.old.shape self.now.x.0 rate.0 self.now.t.0 self.now.z.0 self.now.declared) (gates_of near)) store.old store.new result }
+    {
+        let from = first(near);
+        let count = gates(near);
+        let mut answer = start(store);
+        let mut done = 0;
+        while done < count {
+            let here = (count - done).min(16);
+            let next = self.revise_block(store, rate, from + done, here);
+            answer = answer.then(next);
+            done += here;
+        }
+        answer
+    }
+
+    // Fires the projections that it has without a rate, each by what its formula gives at its turn.
+    fn fire_alone(&self, store: &mut Store) -> Revised
+        requires { EvalFits store.old.shape self.now.x.0 (rate_of self.now.rate) self.now.t.0 self.now.z.0 }
+        ensures { Revises (eval_projections store.old.shape self.now.x.0 None self.now.t.0 self.now.z.0 self.now.declared) store.old store.new result }
+    {
+        let alone = EvalCtc {
+            x: self.x,
+            rate: None,
+            t: self.t,
+            z: self.z,
+            declared: self.declared,
+        };
+        let placed = alone.placed(store);
+        revise_by_formulas(&placed, store)
+    }
+
+    // Fires each projection once: those of the gates by the rate come last, sixteen gates at a time.
+    fn fire(&self, store: &mut Store) -> Revised
+        requires { EvalFits store.old.shape self.now.x.0 (rate_of self.now.rate) self.now.t.0 self.now.z.0 }
+        ensures { Revises (eval_projections store.old.shape self.now.x.0 (rate_of self.now.rate) self.now.t.0 self.now.z.0 self.now.declared) store.old store.new result }
+    {
+        let one = self.fire_alone(store);
+        match self.rate {
+            None => one,
+            Some(rate) => {
+                let near = self.near(store);
+                let two = self.revise_reached(store, rate, near);
+                one.then(two)
+            }
+        }
+    }
+
     // How many cells of one signal the formulas read.
     fn places(&self, store: &Store) -> u32
         ensures value { result ≡ length (places_of (near_of store.now.shape.grid self.now.declared)) }
@@ -213,24 +321,30 @@ impl EvalCtc {
     }
 }
 
-impl Formulas for EvalCtc {
-    ghost use Rattle.ctc_eval.specs.Evals.{EvalFits, eval_projections};
-    ghost use Rattle.ctc_eval.specs.Held.{rate_of};
+// An evaluation and its slices, which are found once a firing and not once a formula.
+#[derive(Clone, Copy)]
+struct Placed {
+    ctc: EvalCtc,
+    near: Option<Near>,
+}
+
+impl Formulas for Placed {
+    ghost use Rattle.ctc_eval.specs.Held.{PlacedFits, placed_projections, rate_of};
     ghost use Rattle.ctc_eval.specs.EvalLaws.{eval-monotone, eval-in_store};
 
-    ghost projections = { λ c s. eval_projections s c.x.0 (rate_of c.rate) c.t.0 c.z.0 c.declared };
+    ghost projections = { λ p s. placed_projections s p };
 
-    ghost fits = { λ c s b. EvalFits s c.x.0 (rate_of c.rate) c.t.0 c.z.0 };
+    ghost fits = { λ p s b. PlacedFits s p };
 
-    ghost monotone = { λ c s. eval-monotone (λ xs. EvalFits s c.x.0 (rate_of c.rate) c.t.0 c.z.0) s c.x.0 (rate_of c.rate) c.t.0 c.z.0 c.declared };
+    ghost monotone = { λ p s. eval-monotone (λ xs. PlacedFits s p) s p.ctc.x.0 (rate_of p.ctc.rate) p.ctc.t.0 p.ctc.z.0 p.ctc.declared };
 
-    ghost fits_below = { λ c s a b low fits. fits };
+    ghost fits_below = { λ p s a b low fits. fits };
 
-    ghost in_store = { λ c s b shape fits. (eval-in_store s c.x.0 (rate_of c.rate) c.t.0 c.z.0 c.declared shape fits).1 };
+    ghost in_store = { λ p s b shape fits. (eval-in_store s p.ctc.x.0 (rate_of p.ctc.rate) p.ctc.t.0 p.ctc.z.0 p.ctc.declared shape fits.fits).1 };
 
-    fn count(&self, store: &Store) -> u32 {
-        let gates = gates(self.near(store));
-        match self.rate {
+    fn count(&self, _store: &Store) -> u32 {
+        let gates = gates(self.near);
+        match self.ctc.rate {
             Some(_) => 2 + (gates + gates),
             None => 2 + gates,
         }
@@ -238,20 +352,20 @@ impl Formulas for EvalCtc {
 
     fn target(&self, store: &Store, i: u32) -> CellId {
         store.known();
-        match self.held(store, i) {
-            Held::Value => store.var(self.z),
-            Held::Time => store.var(self.t),
-            Held::Gate(gate) => store.gate(self.x, gate),
-            Held::Reached(_, gate) => store.gate(self.x, gate),
+        match self.ctc.held(store, self.near, i) {
+            Held::Value => store.var(self.ctc.z),
+            Held::Time => store.var(self.ctc.t),
+            Held::Gate(gate) => store.gate(self.ctc.x, gate),
+            Held::Reached(_, gate) => store.gate(self.ctc.x, gate),
         }
     }
 
     fn given(&self, store: &Store, i: u32) -> Given {
-        match self.held(store, i) {
-            Held::Value => self.value_given(store),
-            Held::Time => self.time_given(store),
-            Held::Gate(gate) => self.gate_given(store, gate),
-            Held::Reached(rate, gate) => self.reached_given(store, rate, gate),
+        match self.ctc.held(store, self.near, i) {
+            Held::Value => self.ctc.value_given(store),
+            Held::Time => self.ctc.time_given(store),
+            Held::Gate(gate) => self.ctc.gate_given(store, gate),
+            Held::Reached(rate, gate) => self.ctc.reached_given(store, rate, gate),
         }
     }
 }
@@ -314,20 +428,21 @@ impl Contractor for EvalCtc {
     }
 
     fn writes(&self, store: &Store) -> u32 {
-        self.count(store)
+        self.placed(store).count(store)
     }
 
     fn written(&self, store: &Store, i: u32) -> CellId {
-        self.target(store, i)
+        self.placed(store).target(store, i)
     }
 
     fn revise<L: Ledger>(&self, store: &mut Store, steps: &mut Steps<L>) -> Revised {
         steps.tick();
-        revise_by_formulas(self, store)
+        self.fire(store)
     }
 
     fn still<L: Ledger>(&self, store: &Store, steps: &mut Steps<L>) -> bool {
         steps.tick();
-        still_by_formulas(self, store)
+        let placed = self.placed(store);
+        still_by_formulas(&placed, store)
     }
 }

@@ -9,13 +9,15 @@
 //! Mihaylova, Le Bars and Veres, Reliable Nonlinear State Estimation Involving Time Uncertainties (2018), here over whole ticks.
 #![tactic(auto)]
 
+mod block;
 mod clock;
 mod eval;
 mod laws;
 mod near;
 mod readings;
 mod sweep;
+mod walk;
 
 pub use eval::EvalCtc;
-pub use laws::{declared_law, eval_law, near_law};
-pub use near::{Near, near_in};
+pub use laws::{declared_law, eval_law};
+pub use slice_gates::{Near, near_in, near_law};

@@ -7,8 +7,8 @@ use Rattle.tube_spec.specs.Narrowing.{Narrowing}
 use Rattle.tube_spec.specs.Shape.{Shape}
 use Rattle.tube_spec.specs.Projection.{Projection}
 use Rattle.ctc_core.specs.Given.{projection_at, no_projection}
-use Rattle.expr_hc4.specs.declared.places.Leaf.{Leaf}
-use Rattle.expr_hc4.specs.declared.places.Leaf.TheVariants.{Sig}
+use Rattle.tube_names.specs.declared.leaves.Leaf.{Leaf}
+use Rattle.tube_names.specs.declared.leaves.Leaf.TheVariants.{Sig}
 use Rattle.expr_hc4.specs.declared.places.Place.{Place}
 use Rattle.expr_hc4.specs.Places.{leaf_cell, leaf_cells, LeafFits, ExprFits}
 use Rattle.expr_hc4.specs.Projections.{cell_projections}

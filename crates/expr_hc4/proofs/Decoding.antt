@@ -6,10 +6,10 @@ use Rattle.expr_tree.specs.Measures.{nodes, relation_nodes}
 use Rattle.expr_tree.specs.Trees as trees
 use Rattle.expr_tree.specs.declared.RelOp.{RelOp}
 use Rattle.expr_values.specs.Expressions.{Expression, Constant, Entry, Unary, Binary, Comparison, numbered, leaves, relation_leaves, comparison_of}
-use Rattle.expr_hc4.specs.declared.places.Leaf.{Leaf}
+use Rattle.tube_names.specs.declared.leaves.Leaf.{Leaf}
 use Rattle.expr_hc4.specs.declared.nodes.Node.{Node}
 use Rattle.expr_hc4.specs.declared.nodes.Node.TheVariants as kinds
-use Rattle.expr_hc4.specs.Places.{first_uses}
+use Rattle.tube_names.specs.Leaves.{first_uses}
 use Rattle.expr_hc4.specs.Programs.{below, size, code_of, places_of, node_at, expression_of, expression_at, comparison_code, comparison_places, program_comparison, IsProgram, IsFlat, IsOrdered, AreOrdered}
 use Rattle.expr_hc4.proofs.Codes.{length-code, length-places, AllFrom, AllFrom-append, AllFrom-at, ordered-code}
 

@@ -8,8 +8,8 @@ use Rattle.expr_tree.specs.Trees.{Tree, Number, Named, Sum, Join, Relation}
 use Rattle.expr_tree.specs.declared.RelOp.TheVariants.{Eq, Le}
 use Rattle.expr_values.specs.Expressions.{comparison_of}
 use Rattle.ctc_core.specs.Given.{projection_at}
-use Rattle.expr_hc4.specs.declared.places.Leaf.{Leaf}
-use Rattle.expr_hc4.specs.declared.places.Leaf.TheVariants.{Sig, Var}
+use Rattle.tube_names.specs.declared.leaves.Leaf.{Leaf}
+use Rattle.tube_names.specs.declared.leaves.Leaf.TheVariants.{Sig, Var}
 use Rattle.expr_hc4.specs.declared.places.Place.TheVariants.{Gate, Envelope, Once}
 use Rattle.expr_hc4.specs.Places.{leaf_cells, expr_scope}
 use Rattle.expr_hc4.specs.Projections.{expr_projections}

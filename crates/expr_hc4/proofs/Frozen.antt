@@ -17,12 +17,10 @@ use Rattle.std.proofs.lemmas.List.{length-map}
 use Rattle.tube_spec.proofs.Monotone.{IfSome-map, IfSome-any}
 use Rattle.expr_values.specs.Expressions.{Comparison}
 use Rattle.expr_values.specs.Targets.{entry_narrowing}
-use Rattle.expr_hc4.specs.declared.places.Leaf.{Leaf}
+use Rattle.tube_names.specs.declared.leaves.Leaf.{Leaf}
 use Rattle.expr_hc4.specs.declared.places.Place.{Place}
-use Rattle.expr_hc4.specs.declared.passes.Outcome.{Outcome}
 use Rattle.expr_hc4.specs.Places.{leaf_cell, leaf_cells}
 use Rattle.expr_hc4.specs.Projections.{cell_projections, entries_at, expr_projections}
-use Rattle.expr_hc4.specs.Outcomes.{outcome_at}
 use Rattle.expr_hc4.specs.ExprLaws.{all-projections, expr-monotone}
 
 -- what holds of all holds of the projection on each cell
@@ -88,26 +86,26 @@ module _ (cells : List ℕ) (f : ℕ → List Span → Narrowing) (g : ℕ → N
   rests-found (Some xs) same h = record { box = h.box; stable = found-stable xs same h.stable }
 
 -- a relation at a place, and what was found in a store's box
-module _ (place : Place) (leaves ls : List Leaf) (c : Comparison) (o : Outcome) (old : State) (e : ls ≡ leaves)
-    (same : IfSome old.box (λ xs. (j : ℕ) → j < length leaves → outcome_at o j ≡ entry_narrowing (entries_at (leaf_cells old.shape place leaves) xs) c j)) where
+module _ (place : Place) (leaves ls : List Leaf) (c : Comparison) (o : ℕ → Narrowing) (old : State) (e : ls ≡ leaves)
+    (same : IfSome old.box (λ xs. (j : ℕ) → j < length leaves → o j ≡ entry_narrowing (entries_at (leaf_cells old.shape place leaves) xs) c j)) where
   abbrev cells : List ℕ
   cells = leaf_cells old.shape place leaves
 
   abbrev formulas : ℕ → List Span → Narrowing
   formulas j xs = entry_narrowing (entries_at cells xs) c j
 
-  by-cells : IfSome old.box (λ xs. (j : ℕ) → j < length cells → outcome_at o j ≡ formulas j xs)
-  by-cells = IfSome-map (λ xs. (j : ℕ) → j < length leaves → outcome_at o j ≡ formulas j xs) (λ xs. (j : ℕ) → j < length cells → outcome_at o j ≡ formulas j xs) old.box (λ xs h j l. h j (omega (arith, l, length-map leaves (leaf_cell old.shape place)))) same
+  by-cells : IfSome old.box (λ xs. (j : ℕ) → j < length cells → o j ≡ formulas j xs)
+  by-cells = IfSome-map (λ xs. (j : ℕ) → j < length leaves → o j ≡ formulas j xs) (λ xs. (j : ℕ) → j < length cells → o j ≡ formulas j xs) old.box (λ xs h j l. h j (omega (arith, l, length-map leaves (leaf_cell old.shape place)))) same
 
-  pub relation-revised : (new : State) (answer : Revised) → Revises (cell_projections (leaf_cells old.shape place ls) (λ j xs. outcome_at o j)) old new answer → Revises (expr_projections old.shape place leaves c) old new answer
+  pub relation-revised : (new : State) (answer : Revised) → Revises (cell_projections (leaf_cells old.shape place ls) (λ j xs. o j)) old new answer → Revises (expr_projections old.shape place leaves c) old new answer
   relation-revised new answer r =
-      revises-found cells formulas (outcome_at o) (λ xs. Unit {0}) old new answer (IfSome-any (λ xs. Unit {0}) old.box (λ xs. tt)) by-cells (expr-monotone (λ xs. Unit {0}) old.shape place leaves c)
-      (subst (λ (ks : List Leaf). Revises (cell_projections (leaf_cells old.shape place ks) (λ j xs. outcome_at o j)) old new answer) e r)
+      revises-found cells formulas o (λ xs. Unit {0}) old new answer (IfSome-any (λ xs. Unit {0}) old.box (λ xs. tt)) by-cells (expr-monotone (λ xs. Unit {0}) old.shape place leaves c)
+      (subst (λ (ks : List Leaf). Revises (cell_projections (leaf_cells old.shape place ks) (λ j xs. o j)) old new answer) e r)
 
-  pub relation-still : IsSomeAnd old.box (λ xs. IsFixpoint (cell_projections (leaf_cells old.shape place ls) (λ j xs. outcome_at o j)) xs → ⊥) → IsSomeAnd old.box (λ xs. IsFixpoint (expr_projections old.shape place leaves c) xs → ⊥)
+  pub relation-still : IsSomeAnd old.box (λ xs. IsFixpoint (cell_projections (leaf_cells old.shape place ls) (λ j xs. o j)) xs → ⊥) → IsSomeAnd old.box (λ xs. IsFixpoint (expr_projections old.shape place leaves c) xs → ⊥)
   relation-still h =
-      still-found cells formulas (outcome_at o) old.box by-cells (subst (λ (ks : List Leaf). IsSomeAnd old.box (λ xs. IsFixpoint (cell_projections (leaf_cells old.shape place ks) (λ j xs. outcome_at o j)) xs → ⊥)) e h)
+      still-found cells formulas o old.box by-cells (subst (λ (ks : List Leaf). IsSomeAnd old.box (λ xs. IsFixpoint (cell_projections (leaf_cells old.shape place ks) (λ j xs. o j)) xs → ⊥)) e h)
 
-  pub relation-rests : IfSome old.box (IsFixpoint (cell_projections (leaf_cells old.shape place ls) (λ j xs. outcome_at o j))) → IfSome old.box (IsFixpoint (expr_projections old.shape place leaves c))
+  pub relation-rests : IfSome old.box (IsFixpoint (cell_projections (leaf_cells old.shape place ls) (λ j xs. o j))) → IfSome old.box (IsFixpoint (expr_projections old.shape place leaves c))
   relation-rests h =
-      rests-found cells formulas (outcome_at o) old.box by-cells (subst (λ (ks : List Leaf). IfSome old.box (IsFixpoint (cell_projections (leaf_cells old.shape place ks) (λ j xs. outcome_at o j)))) e h)
+      rests-found cells formulas o old.box by-cells (subst (λ (ks : List Leaf). IfSome old.box (IsFixpoint (cell_projections (leaf_cells old.shape place ks) (λ j xs. o j)))) e h)

@@ -15,7 +15,7 @@ use Rattle.ctc_core.specs.declared.Revised.{Revised}
 use Rattle.ctc_core.specs.declared.Revised.TheVariants.{Same, Narrowed, Empty}
 use Rattle.expr_tree.specs.Trees.{Relation}
 use Rattle.expr_values.specs.Expressions.{relation_leaves, comparison_of}
-use Rattle.expr_hc4.specs.declared.places.Leaf.{Leaf}
+use Rattle.tube_names.specs.declared.leaves.Leaf.{Leaf}
 use Rattle.expr_hc4.specs.declared.places.Place.{Place}
 use Rattle.expr_hc4.specs.Projections.{expr_projections}
 

@@ -21,13 +21,13 @@ use Rattle.expr_values.specs.Targets.{comparison_targets, narrowing_at, entry_na
 use Rattle.expr_values.proofs.Bounds.{and-both}
 use Rattle.expr_values.proofs.Monotone.{bounded-mono}
 use Rattle.expr_values.proofs.Solutions.{comparison-holds}
-use Rattle.expr_hc4.specs.declared.places.Leaf.{Leaf}
-use Rattle.expr_hc4.specs.declared.places.Leaf.TheVariants.{Sig, Var}
+use Rattle.tube_names.specs.declared.leaves.Leaf.{Leaf}
+use Rattle.tube_names.specs.declared.leaves.Leaf.TheVariants.{Sig, Var}
 use Rattle.expr_hc4.specs.declared.places.Place.{Place}
 use Rattle.expr_hc4.specs.declared.places.Place.TheVariants.{Gate, Envelope, Once}
 use Rattle.expr_hc4.specs.Places.{leaf_cell, leaf_cells, LeafFits, ExprFits}
 use Rattle.expr_hc4.specs.Projections.{entries_at, expr_projections, leaf_number, HoldsAtTick, SatisfiesAt}
-use Rattle.expr_hc4.specs.Uses.{All-head, All-tail}
+use Rattle.tube_names.proofs.Uses.{All-head, All-tail}
 use Rattle.expr_hc4.specs.ExprLaws.{all-projections}
 use Rattle.expr_hc4.proofs.Counts.{leaf_at}
 

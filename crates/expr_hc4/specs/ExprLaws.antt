@@ -15,13 +15,14 @@ use Rattle.tube_spec.proofs.Spans.{IsWithin-refl}
 use Rattle.expr_values.specs.Expressions.{Comparison}
 use Rattle.expr_values.specs.Targets.{entry_narrowing}
 use Rattle.expr_values.proofs.Monotone.{entry-mono}
-use Rattle.expr_hc4.specs.declared.places.Leaf.{Leaf}
-use Rattle.expr_hc4.specs.declared.places.Leaf.TheVariants.{Sig, Var}
+use Rattle.tube_names.specs.declared.leaves.Leaf.{Leaf}
+use Rattle.tube_names.specs.declared.leaves.Leaf.TheVariants.{Sig, Var}
 use Rattle.expr_hc4.specs.declared.places.Place.{Place}
 use Rattle.expr_hc4.specs.declared.places.Place.TheVariants.{Gate, Envelope, Once}
-use Rattle.expr_hc4.specs.Places.{leaf_cell, leaf_cells, LeafFits, ExprFits, same_leaf, with_leaf, first_uses, expr_scope}
+use Rattle.expr_hc4.specs.Places.{leaf_cell, leaf_cells, LeafFits, ExprFits, expr_scope}
+use Rattle.tube_names.specs.Leaves.{same_leaf, with_leaf, first_uses}
 use Rattle.expr_hc4.specs.Projections.{cell_projections, entries_at, expr_projections_at, expr_projections}
-use Rattle.expr_hc4.specs.Uses.{All-tail, All-head, uses-has, uses-all}
+use Rattle.tube_names.proofs.Uses.{All-tail, All-head, uses-has, uses-all}
 
 -- what holds of the projection on each cell holds of all
 pub all-projections : (P : Projection → Type 0) (cells : List ℕ) (f : ℕ → List Span → Narrowing) → ((j : ℕ) → j < length cells → P (record { target = slice_index cells j; formula = f j })) → All P (cell_projections cells f)

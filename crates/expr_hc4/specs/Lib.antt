@@ -2,5 +2,4 @@ pub mod Places
 pub mod Projections
 pub mod Programs
 pub mod Outcomes
-pub mod Uses
 pub mod ExprLaws

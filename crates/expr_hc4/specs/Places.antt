@@ -1,9 +1,9 @@
 -- The cells that the names of a relation have at a place.
-use Rattle.std.specs.Prelude.{ℕ, ◌+◌, ◌<◌, nat_eq, Bool, true, false, cond, List, [], ◌∷◌, ◌++◌, length, slice_index, map, fold, All}
-use Rattle.std.specs.List.{list_any}
+use Rattle.std.specs.Prelude.{ℕ, ◌+◌, ◌<◌, List, length, slice_index, map, All}
 use Rattle.tube_spec.specs.Shape.{Shape, gate_cell, envelope_cell}
-use Rattle.expr_hc4.specs.declared.places.Leaf.{Leaf}
-use Rattle.expr_hc4.specs.declared.places.Leaf.TheVariants.{Sig, Var}
+use Rattle.tube_names.specs.declared.leaves.Leaf.{Leaf}
+use Rattle.tube_names.specs.declared.leaves.Leaf.TheVariants.{Sig, Var}
+use Rattle.tube_names.specs.Leaves.{first_uses}
 use Rattle.expr_hc4.specs.declared.places.Place.{Place}
 use Rattle.expr_hc4.specs.declared.places.Place.TheVariants.{Gate, Envelope, Once}
 
@@ -27,21 +27,6 @@ ExprFits s place leaves = All (LeafFits s place) leaves
 -- the cells of the leaves, from the left
 abbrev pub leaf_cells : Shape → Place → List Leaf → List ℕ
 leaf_cells s place leaves = map (leaf_cell s place) leaves
-
--- two leaves name the same
-abbrev pub same_leaf : Leaf → Leaf → Bool
-same_leaf (Sig x) (Sig y) = nat_eq x.0 y.0
-same_leaf (Var v) (Var w) = nat_eq v.0 w.0
-same_leaf (Sig x) (Var w) = false
-same_leaf (Var v) (Sig y) = false
-
--- a list of leaves with one more at the end, unless it stands there already
-abbrev pub with_leaf : List Leaf → Leaf → List Leaf
-with_leaf names l = cond (list_any (same_leaf l) names) names (names ++ l ∷ [])
-
--- each leaf once, in the order in which they first stand
-abbrev pub first_uses : List Leaf → List Leaf
-first_uses leaves = fold with_leaf [] leaves
 
 -- the cells that a relation reads at a place, each leaf once
 abbrev pub expr_scope : Shape → Place → List Leaf → List ℕ

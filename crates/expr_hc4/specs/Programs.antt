@@ -6,8 +6,8 @@ use Rattle.expr_tree.specs.declared.RelOp.{RelOp}
 use Rattle.expr_values.specs.Expressions.{Expression, Constant, Entry, Unary, Binary, Comparison}
 use Rattle.expr_values.specs.Operators.{unary_value, binary_value, unary_target, left_target, right_target}
 use Rattle.expr_values.specs.Values.{value_of}
-use Rattle.expr_hc4.specs.declared.places.Leaf.{Leaf}
-use Rattle.expr_hc4.specs.Places.{first_uses}
+use Rattle.tube_names.specs.declared.leaves.Leaf.{Leaf}
+use Rattle.tube_names.specs.Leaves.{first_uses}
 use Rattle.expr_hc4.specs.declared.nodes.Node.{Node}
 use Rattle.expr_hc4.specs.declared.nodes.Node.TheVariants as nodes
 

@@ -12,8 +12,8 @@ use Rattle.expr_values.specs.Expressions.{Comparison}
 use Rattle.expr_values.specs.Values.{IsTrueOf}
 use Rattle.expr_values.specs.Targets.{entry_narrowing}
 use Rattle.expr_hc4.specs.Places.{leaf_cells}
-use Rattle.expr_hc4.specs.declared.places.Leaf.{Leaf}
-use Rattle.expr_hc4.specs.declared.places.Leaf.TheVariants.{Sig, Var}
+use Rattle.tube_names.specs.declared.leaves.Leaf.{Leaf}
+use Rattle.tube_names.specs.declared.leaves.Leaf.TheVariants.{Sig, Var}
 use Rattle.expr_hc4.specs.declared.places.Place.{Place}
 use Rattle.expr_hc4.specs.declared.places.Place.TheVariants.{Gate, Envelope, Once}
 

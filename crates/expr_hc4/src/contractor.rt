@@ -1,19 +1,24 @@
-ghost use Rattle.std.specs.Prelude.{◌≡◌, ◌<◌, ◌≤◌, ℕ, length, slice_index_or, take, IsSome, IfSome};
+//! A relation as a contractor.
+
+ghost use Rattle.std.specs.Prelude.{◌≡◌, ◌<◌, ◌≤◌, ℕ, length, slice_index_or, take, IsSome, IfSome, IsSomeAnd, IsTrue, IsFalse};
+ghost use Rattle.tube_spec.specs.Fixpoint.{IsFixpoint};
+ghost use Rattle.ctc_core.specs.Answers.{Revises};
 ghost use Rattle.tube_spec.specs.Box.{cell_at};
 ghost use Rattle.expr_values.specs.Targets.{entry_narrowing};
 ghost use Rattle.expr_hc4.specs.Places.{leaf_cell, leaf_cells, ExprFits};
-ghost use Rattle.expr_hc4.specs.Projections.{entries_at};
+ghost use Rattle.expr_hc4.specs.Projections.{entries_at, expr_projections};
 ghost use Rattle.expr_hc4.specs.Programs.{bound_comparison};
 ghost use Rattle.expr_hc4.specs.Outcomes.{outcome_at};
 
 use super::flat::Flat;
-use super::passes::{Outcome, ROOM};
-use super::places::{Leaf, Place, cell_of};
+use super::passes::Outcome;
+use super::places::{Place, cell_of};
 use ctc_core::{Contractor, Formulas, Given, Revised, revise_by_formulas, still_by_formulas};
 use int_interval::Interval;
 use std::rc::Rc;
 use std::sync::ledger::Ledger;
 use step_count::Steps;
+use tube_names::Leaf;
 use tube_store::{CellId, Store};
 
 /// A relation at a gate, at an envelope, or once.
@@ -37,27 +42,73 @@ impl ExprCtc {
     }
 
     // What the relation leaves of its leaves in the store's box.
-    fn outcome(&self, store: &Store) -> Outcome
+    fn outcome<const N: usize>(&self, store: &Store) -> Outcome<N>
         requires fits { ExprFits store.now.shape self.now.place self.now.flat.value.leaves }
         requires filled { IsSome store.now.box }
+        requires nodes { length self.now.flat.value.nodes ≤ N }
+        requires leaves { length self.now.flat.value.leaves ≤ N }
+        requires room { N ≤ 256 }
         ensures { IfSome store.now.box (λ xs. (j : ℕ) → j < length self.now.flat.value.leaves
-            → outcome_at result j ≡ entry_narrowing (entries_at (leaf_cells store.now.shape self.now.place self.now.flat.value.leaves) xs) (bound_comparison self.now.flat.value) j) }
+            → outcome_at result.ending result.targets j ≡ entry_narrowing (entries_at (leaf_cells store.now.shape self.now.place self.now.flat.value.leaves) xs) (bound_comparison self.now.flat.value) j) }
     {
         let leaves = self.flat.leaves();
-        let entries = intervals_of(leaves, self.place, store);
+        let entries: [Interval; N] = intervals_of(leaves, self.place, store);
         self.flat.outcome(&entries[..leaves.len()])
+    }
+
+    // Fires it, with room for `N` nodes.
+    fn fire<const N: usize>(&self, store: &mut Store) -> Revised
+        requires fits { ExprFits store.old.shape self.now.place self.now.flat.value.leaves }
+        requires nodes { length self.now.flat.value.nodes ≤ N }
+        requires leaves { length self.now.flat.value.leaves ≤ N }
+        requires room { N ≤ 256 }
+        ensures { Revises (expr_projections store.old.shape self.now.place self.now.flat.value.leaves (bound_comparison self.now.flat.value)) store.old store.new result }
+    {
+        store.known();
+        if store.is_empty() {
+            return Revised::Empty;
+        }
+        let outcome: Outcome<N> = self.outcome(store);
+        let found = Found {
+            leaves: self.flat.leaves(),
+            place: self.place,
+            outcome,
+        };
+        revise_by_formulas(&found, store)
+    }
+
+    // Whether a firing would change the store, with room for `N` nodes.
+    fn test<const N: usize>(&self, store: &Store) -> bool
+        requires fits { ExprFits store.now.shape self.now.place self.now.flat.value.leaves }
+        requires nodes { length self.now.flat.value.nodes ≤ N }
+        requires leaves { length self.now.flat.value.leaves ≤ N }
+        requires room { N ≤ 256 }
+        ensures yes { IsTrue result → IsSomeAnd store.now.box (λ xs. IsFixpoint (expr_projections store.now.shape self.now.place self.now.flat.value.leaves (bound_comparison self.now.flat.value)) xs → ⊥) }
+        ensures no { IsFalse result → IfSome store.now.box (IsFixpoint (expr_projections store.now.shape self.now.place self.now.flat.value.leaves (bound_comparison self.now.flat.value))) }
+    {
+        if store.is_empty() {
+            return false;
+        }
+        let outcome: Outcome<N> = self.outcome(store);
+        let found = Found {
+            leaves: self.flat.leaves(),
+            place: self.place,
+            outcome,
+        };
+        still_by_formulas(&found, store)
     }
 }
 
 /// The intervals of the cells of leaves, from the left.
-fn intervals_of(leaves: &[Leaf], place: Place, store: &Store) -> [Interval; 256]
+fn intervals_of<const N: usize>(leaves: &[Leaf], place: Place, store: &Store) -> [Interval; N]
     requires fits { ExprFits store.now.shape place leaves.now }
-    requires few { length leaves.now ≤ 256 }
+    requires few { length leaves.now ≤ N }
+    requires room { N ≤ 256 }
     requires filled { IsSome store.now.box }
     ensures { IfSome store.now.box (λ xs. take (length leaves.now) result ≡ entries_at (leaf_cells store.now.shape place leaves.now) xs) }
 {
     let unset = Interval::new(0, 0).unwrap();
-    let mut entries = [unset; ROOM];
+    let mut entries = [unset; N];
     for j in 0..leaves.len() {
         entries[j] = store.get(cell_of(store, place, leaves[j]));
     }
@@ -66,28 +117,28 @@ fn intervals_of(leaves: &[Leaf], place: Place, store: &Store) -> [Interval; 256]
 
 // What was found in a box, as projections on the cells of the leaves whose formulas give just that.
 #[derive(Drop)]
-struct Found<'a> {
+struct Found<'a, const N: usize> {
     leaves: &'a [Leaf],
     place: Place,
-    outcome: Outcome,
+    outcome: Outcome<N>,
 }
 
-impl Formulas for Found<'_> {
+impl<const N: usize> Formulas for Found<'_, N> {
     ghost use Rattle.std.specs.Prelude.{◌≤◌, length};
     ghost use Rattle.expr_hc4.specs.Places.{leaf_cells, ExprFits};
     ghost use Rattle.expr_hc4.specs.Projections.{cell_projections};
     ghost use Rattle.expr_hc4.specs.Outcomes.{outcome_at};
     ghost use Rattle.expr_hc4.specs.ExprLaws.{found-monotone, found-in_store};
 
-    ghost projections = { λ c s. cell_projections (leaf_cells s c.place c.leaves.now) (λ j xs. outcome_at c.outcome j) };
+    ghost projections = { λ c s. cell_projections (leaf_cells s c.place c.leaves.now) (λ j xs. outcome_at c.outcome.ending c.outcome.targets j) };
 
-    ghost fits = { λ c s b. ExprFits s c.place c.leaves.now × (length c.leaves.now ≤ 256) };
+    ghost fits = { λ c s b. ExprFits s c.place c.leaves.now × (length c.leaves.now ≤ N) × (length c.leaves.now ≤ 256) };
 
-    ghost monotone = { λ c s. found-monotone (λ xs. ExprFits s c.place c.leaves.now × (length c.leaves.now ≤ 256)) (leaf_cells s c.place c.leaves.now) (outcome_at c.outcome) };
+    ghost monotone = { λ c s. found-monotone (λ xs. ExprFits s c.place c.leaves.now × (length c.leaves.now ≤ N) × (length c.leaves.now ≤ 256)) (leaf_cells s c.place c.leaves.now) (outcome_at c.outcome.ending c.outcome.targets) };
 
     ghost fits_below = { λ c s a b low fits. fits };
 
-    ghost in_store = { λ c s b shape fits. found-in_store s c.place c.leaves.now (outcome_at c.outcome) shape fits.0 };
+    ghost in_store = { λ c s b shape fits. found-in_store s c.place c.leaves.now (outcome_at c.outcome.ending c.outcome.targets) shape fits.0 };
 
     fn count(&self, _store: &Store) -> u32 {
         self.leaves.len() as u32
@@ -148,30 +199,23 @@ impl Contractor for ExprCtc {
 
     fn revise<L: Ledger>(&self, store: &mut Store, steps: &mut Steps<L>) -> Revised {
         steps.tick();
-        store.known();
-        if store.is_empty() {
-            return Revised::Empty;
+        if self.flat.is_within(16) {
+            self.fire::<16>(store)
+        } else if self.flat.is_within(64) {
+            self.fire::<64>(store)
+        } else {
+            self.fire::<256>(store)
         }
-        let outcome = self.outcome(store);
-        let found = Found {
-            leaves: self.flat.leaves(),
-            place: self.place,
-            outcome,
-        };
-        revise_by_formulas(&found, store)
     }
 
     fn still<L: Ledger>(&self, store: &Store, steps: &mut Steps<L>) -> bool {
         steps.tick();
-        if store.is_empty() {
-            return false;
+        if self.flat.is_within(16) {
+            self.test::<16>(store)
+        } else if self.flat.is_within(64) {
+            self.test::<64>(store)
+        } else {
+            self.test::<256>(store)
         }
-        let outcome = self.outcome(store);
-        let found = Found {
-            leaves: self.flat.leaves(),
-            place: self.place,
-            outcome,
-        };
-        still_by_formulas(&found, store)
     }
 }

@@ -1,21 +1,23 @@
-ghost use Rattle.std.specs.Prelude.{◌≡◌, ℕ, ◌+◌, ◌<◌, ◌≤◌, ◌++◌, ◌∷◌, [], length, IfOk};
+//! A relation as a flat program, operands before operators.
+
+ghost use Rattle.std.specs.Prelude.{◌≡◌, ℕ, ◌+◌, ◌<◌, ◌≤◌, ◌++◌, ◌∷◌, [], length, IfOk, IsTrue};
 ghost use Rattle.expr_tree.specs.Trees.{tree_of, relation_of};
 ghost use Rattle.expr_tree.specs.Measures.{relation_nodes};
 ghost use Rattle.expr_values.specs.Expressions.{Unary, Binary, leaves, numbered, comparison_of, relation_leaves};
 ghost use Rattle.expr_values.specs.Targets.{entry_narrowing};
-ghost use Rattle.expr_hc4.specs.Places.{first_uses};
+ghost use Rattle.tube_names.specs.Leaves.{first_uses};
 ghost use Rattle.expr_hc4.specs.Programs.{below, code_of, places_of, bound_comparison};
 ghost use Rattle.expr_hc4.specs.Outcomes.{outcome_at};
 
 use super::nodes::Node;
 use super::passes::{Outcome, outcome_of};
-use super::places::{Leaf, names_of};
 use expr_tree::{Rel, RelOp, Term};
 use expr_values::{BinaryOp, UnaryOp};
 use int_interval::Interval;
 use std::alloc::Global;
 use std::marker::Model;
 use tube_io::NoMemory;
+use tube_names::{Leaf, first_uses};
 
 /// A relation whose names are bound to signals and variables, as a flat program: the list of its nodes, operands before operators.
 ///
@@ -130,7 +132,7 @@ impl Flat {
         let left = draft.add(&rel.left)?;
         draft.add(&rel.right)?;
         let Draft { nodes, places } = draft;
-        let names = names_of(alloc, leaves)?;
+        let names = first_uses(alloc, leaves)?;
         Ok(Flat {
             op: rel.op,
             nodes,
@@ -157,10 +159,21 @@ impl Flat {
         self.names.as_slice()
     }
 
-    /// What the relation leaves of its names, where `entries` are their intervals, from the left.
-    pub(crate) fn outcome(&self, entries: &[Interval]) -> Outcome
-        requires { length entries.now ≡ length self.now.leaves }
-        ensures { (j : ℕ) → j < length self.now.leaves → outcome_at result j ≡ entry_narrowing entries.now (bound_comparison self.now) j }
+    /// Whether it has at most so many nodes and name leaves.
+    pub(crate) fn is_within(&self, room: usize) -> bool
+        ensures yes { IsTrue result → (length self.now.nodes ≤ room) × (length self.now.leaves ≤ room) }
+        ensures few { (length self.now.nodes ≤ 256) × (length self.now.leaves ≤ 256) }
+    {
+        self.nodes.len() <= room && self.leaves.len() <= room
+    }
+
+    /// What the relation leaves of its names, where `entries` are their intervals, from the left. There is room for `N` nodes.
+    pub(crate) fn outcome<const N: usize>(&self, entries: &[Interval]) -> Outcome<N>
+        requires entries { length entries.now ≡ length self.now.leaves }
+        requires nodes { length self.now.nodes ≤ N }
+        requires leaves { length self.now.leaves ≤ N }
+        requires room { N ≤ 256 }
+        ensures { (j : ℕ) → j < length self.now.leaves → outcome_at result.ending result.targets j ≡ entry_narrowing entries.now (bound_comparison self.now) j }
     {
         outcome_of(self.op, &self.nodes, self.left, &self.places, entries)
     }

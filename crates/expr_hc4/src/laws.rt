@@ -1,3 +1,5 @@
+//! What holds of relations as constraints.
+
 ghost use Rattle.std.specs.Prelude.{◌≡◌, ℕ, List, [], All, IsSome, length};
 ghost use Rattle.std.specs.List.{IsDistinct};
 ghost use Rattle.tube_spec.specs.Span.{Span};
@@ -14,8 +16,9 @@ ghost use Rattle.expr_values.specs.Expressions.{Comparison, comparison_of, relat
 ghost use Rattle.expr_values.specs.Values.{range_value};
 ghost use Rattle.expr_values.specs.Targets.{comparison_targets, narrowing_at, entry_narrowing};
 ghost use Rattle.expr_hc4.specs.declared.places.Place.{Place};
-ghost use Rattle.expr_hc4.specs.declared.places.Leaf.{Leaf};
-ghost use Rattle.expr_hc4.specs.Places.{ExprFits, same_leaf, first_uses};
+ghost use Rattle.tube_names.specs.declared.leaves.Leaf.{Leaf};
+ghost use Rattle.expr_hc4.specs.Places.{ExprFits};
+ghost use Rattle.tube_names.specs.Leaves.{same_leaf, first_uses};
 ghost use Rattle.expr_hc4.specs.Projections.{SatisfiesAt, expr_projections};
 
 /// What holds of relations as constraints.

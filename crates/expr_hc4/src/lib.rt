@@ -18,4 +18,5 @@ mod places;
 pub use contractor::ExprCtc;
 pub use flat::Flat;
 pub use laws::expr_law;
-pub use places::{Leaf, Place};
+pub use places::Place;
+pub use tube_names::Leaf;

@@ -1,3 +1,5 @@
+//! The nodes of a flat program: their values upward, and their targets downward.
+
 ghost use Rattle.std.specs.Prelude.{◌≡◌, ◌<◌, ◌≤◌, Some, None, length, MatchBool};
 ghost use Rattle.expr_values.specs.Operators.{bounded};
 ghost use Rattle.expr_hc4.specs.Programs.{IsOrdered, node_value, narrowed, set_one, set_two};

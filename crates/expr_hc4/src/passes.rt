@@ -1,3 +1,5 @@
+//! The two passes over a flat program: up for the values, down for the targets.
+
 ghost use Rattle.std.specs.Prelude.{◌≡◌, ◌<◌, ◌≤◌, ◌++◌, ◌∷◌, ℕ, List, true, false, length, slice_index, map, MatchBool, All, Some, None};
 ghost use Rattle.tube_spec.specs.Span.{Span};
 ghost use Rattle.tube_spec.specs.Box.{cell_at};
@@ -15,33 +17,36 @@ use expr_tree::RelOp;
 use expr_values::{left_of, right_of};
 use int_interval::Interval;
 
-/// The most nodes of a program.
-pub(crate) const ROOM: usize = 256;
-
-/// What a relation leaves of its name leaves.
-#[derive(Clone, Copy, Debug)]
-pub enum Outcome {
-    /// The whole line: the value of some node leaves the bound.
+/// How the passes of a relation end.
+#[derive(Clone, Copy, Debug, PartialEq, Eq)]
+pub enum Ending {
+    /// With the whole line: the value of some node leaves the bound.
     Whole,
-    /// No number: the target of some node is nothing.
+    /// With no number: the target of some node is nothing.
     Nothing,
-    /// The targets of the name leaves, from the left.
-    Within([Interval; 256]),
+    /// With a target for each name leaf.
+    Within,
 }
 
-impl Outcome {
+/// What a relation of at most `N` nodes leaves of its name leaves.
+#[derive(Clone, Copy, Debug)]
+pub struct Outcome<const N: usize> {
+    /// How the passes end.
+    pub ending: Ending,
+    /// The targets of the name leaves, from the left, where there are such.
+    pub targets: [Interval; N],
+}
+
+impl<const N: usize> Outcome<N> {
     /// What is left of the name leaf with a number.
     pub(crate) fn given(&self, i: usize) -> Given
-        requires { i < 256 }
-        ensures { narrowing_given result ≡ outcome_at self.now i }
+        requires { i < N }
+        ensures { narrowing_given result ≡ outcome_at self.now.ending self.now.targets i }
     {
-        match self {
-            Outcome::Whole => Given::Whole,
-            Outcome::Nothing => Given::Nothing,
-            Outcome::Within(targets) => {
-                let target = targets[i];
-                Given::Within(target)
-            }
+        match self.ending {
+            Ending::Whole => Given::Whole,
+            Ending::Nothing => Given::Nothing,
+            Ending::Within => Given::Within(self.targets[i]),
         }
     }
 }
@@ -94,13 +99,14 @@ fn compare_sides(op: RelOp, left: usize, right: usize, values: &mut [Interval]) 
 }
 
 /// The values in some places.
-fn gathered(places: &[usize], values: &[Interval]) -> [Interval; 256]
-    requires few { length places.now ≤ 256 }
+fn gathered<const N: usize>(places: &[usize], values: &[Interval]) -> [Interval; N]
+    requires few { length places.now ≤ N }
+    requires room { N ≤ 256 }
     requires among { All (λ p. p < length values.now) places.now }
     ensures { (j : ℕ) → j < length places.now → cell_at result j ≡ cell_at values.now (slice_index places.now j) }
 {
     let unset = Interval::new(0, 0).unwrap();
-    let mut targets = [unset; ROOM];
+    let mut targets = [unset; N];
     for j in 0..places.len() {
         targets[j] = values[places[j]];
     }
@@ -109,29 +115,43 @@ fn gathered(places: &[usize], values: &[Interval]) -> [Interval; 256]
 
 /// What a relation leaves of its name leaves, of which `entries` are the intervals. Its nodes are those of a program, with the root of its
 /// left side at the index `left` and its name leaves at the indices `places`.
-pub(crate) fn outcome_of(
+pub(crate) fn outcome_of<const N: usize>(
     op: RelOp,
     nodes: &[Node],
     left: usize,
     places: &[usize],
     entries: &[Interval],
-) -> Outcome
+) -> Outcome<N>
     requires program { IsProgram nodes.now left places.now (program_comparison op nodes.now left) }
     requires ordered { AreOrdered (length entries.now) nodes.now }
-    requires few { length places.now ≤ 256 }
+    requires nodes { length nodes.now ≤ N }
+    requires few { length places.now ≤ N }
+    requires room { N ≤ 256 }
     requires each { length entries.now ≡ length places.now }
-    ensures { (j : ℕ) → j < length places.now → outcome_at result j ≡ entry_narrowing entries.now (program_comparison op nodes.now left) j }
+    ensures { (j : ℕ) → j < length places.now → outcome_at result.ending result.targets j ≡ entry_narrowing entries.now (program_comparison op nodes.now left) j }
 {
     let unset = Interval::new(0, 0).unwrap();
-    let mut values = [unset; ROOM];
+    let mut values = [unset; N];
     if !evaluate(nodes, entries, &mut values) {
-        return Outcome::Whole;
+        return Outcome {
+            ending: Ending::Whole,
+            targets: values,
+        };
     }
     if !compare_sides(op, left, nodes.len() - 1, &mut values) {
-        return Outcome::Nothing;
+        return Outcome {
+            ending: Ending::Nothing,
+            targets: values,
+        };
     }
     if !narrow(nodes, &mut values) {
-        return Outcome::Nothing;
+        return Outcome {
+            ending: Ending::Nothing,
+            targets: values,
+        };
     }
-    Outcome::Within(gathered(places, &values))
+    Outcome {
+        ending: Ending::Within,
+        targets: gathered(places, &values),
+    }
 }

@@ -1,19 +1,10 @@
-ghost use Rattle.std.specs.Prelude.{◌≡◌, ◌<◌, IfOk};
-ghost use Rattle.std.specs.List.{list_any};
-ghost use Rattle.expr_hc4.specs.Places.{leaf_cell, LeafFits, same_leaf, first_uses};
+//! Where a relation holds, and the cells of its leaves there.
 
-use std::alloc::Global;
-use tube_io::NoMemory;
-use tube_store::{CellId, SignalId, Store, VarId};
+ghost use Rattle.std.specs.Prelude.{◌≡◌, ◌<◌};
+ghost use Rattle.expr_hc4.specs.Places.{leaf_cell, LeafFits};
 
-/// What a name of a relation stands for.
-#[derive(Clone, Copy, Debug, PartialEq, Eq)]
-pub enum Leaf {
-    /// A signal, at the place of the relation.
-    Sig(SignalId),
-    /// A variable, which has one value.
-    Var(VarId),
-}
+use tube_names::Leaf;
+use tube_store::{CellId, Store};
 
 /// Where a relation holds.
 #[derive(Clone, Copy, Debug, PartialEq, Eq)]
@@ -41,35 +32,4 @@ pub(crate) fn cell_of(store: &Store, place: Place, leaf: Leaf) -> CellId
             Place::Once => unreachable!(),
         },
     }
-}
-
-/// Whether two leaves name the same.
-fn same_leaf(a: Leaf, b: Leaf) -> bool
-    ensures { result ≡ same_leaf a b }
-{
-    match (a, b) {
-        (Leaf::Sig(x), Leaf::Sig(y)) => x.0 == y.0,
-        (Leaf::Var(v), Leaf::Var(w)) => v.0 == w.0,
-        _ => false,
-    }
-}
-
-/// Whether a leaf stands in a list.
-fn stands_in(names: &[Leaf], leaf: Leaf) -> bool
-    ensures { result ≡ list_any (same_leaf leaf) names.now }
-{
-    names.iter().any(|name| same_leaf(leaf, *name))
-}
-
-/// Each of the leaves once, in the order in which they first stand.
-pub(crate) fn names_of(alloc: Global, leaves: &[Leaf]) -> Result<Vec<Leaf>, NoMemory>
-    ensures { IfOk result (λ names. names.items ≡ first_uses leaves.now) }
-{
-    let mut names = Vec::new(alloc);
-    for leaf in leaves {
-        if !stands_in(&names, *leaf) {
-            names.push(*leaf)?;
-        }
-    }
-    Ok(names)
 }

@@ -1,8 +1,8 @@
 use Rattle.std.proofs.Common.{arith, sym, ap, ◌∙◌, length, length-set}
 use Rattle.tube_spec.specs.Box.{cell_at}
 use Rattle.tube_spec.proofs.Monotone.{IfSome-map, IfSome-map2}
-use Rattle.point_cells.specs.Points.{numbers, cells_of}
-use Rattle.point_cells.proofs.Numbers.{named-at, cells-length, cell-at}
+use Rattle.tube_names.specs.Points.{numbers, cells_of}
+use Rattle.tube_names.proofs.Numbers.{named-at, cells-length, cell-at}
 use Rattle.ctc_constell.proofs.Meeting.{all-read, read-more}
 use Rattle.ctc_constell.proofs.boxes.box_of.Goals as goal
 

@@ -1,5 +1,5 @@
 use Rattle.std.proofs.Common.{◌≡◌, IfSome, length}
-use Rattle.point_cells.specs.Points.{numbers, cells_of}
+use Rattle.tube_names.specs.Points.{numbers, cells_of}
 use Rattle.ctc_constell.proofs.Meeting.{IsReadBelow}
 use Rattle.ctc_constell.proofs.boxes.box_of.Given as goal
 

@@ -1,4 +1,4 @@
-use Rattle.expr_hc4.specs.Uses.{uses-distinct}
+use Rattle.tube_names.proofs.Uses.{uses-distinct}
 use Rattle.expr_hc4.proofs.Nameless.{no-projection, same-store}
 use Rattle.expr_hc4.proofs.Stable.{expr-stable, expr-within}
 use Rattle.expr_hc4.proofs.laws.expr_law.Goals as goal

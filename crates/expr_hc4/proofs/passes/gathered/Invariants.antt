@@ -4,4 +4,4 @@ use Rattle.expr_hc4.proofs.passes.gathered.Given as goal
 
 -- the places so far
 abbrev pub invariant-loop-j : goal.invariant-loop-j
-invariant-loop-j l = (k : ℕ) → k < l.j → cell_at l.targets k ≡ cell_at l.values (slice_index l.places k)
+invariant-loop-j g l = (k : ℕ) → k < l.j → cell_at l.targets k ≡ cell_at l.values (slice_index l.places k)

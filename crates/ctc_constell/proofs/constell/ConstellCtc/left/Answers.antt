@@ -3,10 +3,10 @@ use Rattle.tube_spec.specs.Span.{Span}
 use Rattle.tube_spec.specs.Hull.{join_option}
 use Rattle.tube_store.specs.declared.VarId.{VarId}
 use Rattle.ctc_constell.specs.Points.{box_of}
-use Rattle.point_cells.specs.Points.{numbers, cells_of}
+use Rattle.tube_names.specs.Points.{numbers, cells_of}
 use Rattle.ctc_constell.specs.Constellations.{left_by, mark_at}
 use Rattle.ctc_constell.proofs.Reading.{mark-cells, mark-named, hull-more, IfSome-map3}
-use Rattle.point_cells.proofs.Numbers.{numbers-length}
+use Rattle.tube_names.proofs.Numbers.{numbers-length}
 use Rattle.ctc_constell.proofs.constell.ConstellCtc.left.Goals as goal
 
 pub box_of-here-requires : goal.box_of-here-requires

@@ -1,7 +1,7 @@
 use Rattle.std.proofs.Common.{◌≡◌, IfSome, map}
 use Rattle.tube_spec.specs.Hull.{hull_below}
 use Rattle.ctc_constell.specs.Points.{box_of}
-use Rattle.point_cells.specs.Points.{numbers, cells_of}
+use Rattle.tube_names.specs.Points.{numbers, cells_of}
 use Rattle.ctc_constell.specs.Constellations.{left_by, mark_at}
 use Rattle.ctc_constell.proofs.constell.ConstellCtc.left.Given as goal
 

@@ -1,7 +1,7 @@
 use Rattle.std.proofs.Common.{◌+◌, ◌*◌, ◌<◌, ◌≤◌, arith, rules, ap, ◌∙◌, length, map, slice_index}
-use Rattle.point_cells.specs.Points.{numbers}
+use Rattle.tube_names.specs.Points.{numbers}
 use Rattle.ctc_constell.proofs.Reading.{both-length, scope-length, scope-at, alike-at, all-named}
-use Rattle.point_cells.proofs.Numbers.{numbers-length}
+use Rattle.tube_names.proofs.Numbers.{numbers-length}
 use Rattle.ctc_constell.proofs.constell.ConstellCtcContractor.read.Goals as goal
 
 pub var-requires : goal.var-requires

@@ -1,5 +1,5 @@
 use Rattle.std.proofs.Common.{◌≡◌, ◌+◌, ◌*◌, ◌∙◌, ℕ, arith, sym, ap, length, map}
-use Rattle.point_cells.specs.Points.{numbers}
+use Rattle.tube_names.specs.Points.{numbers}
 use Rattle.ctc_constell.proofs.Reading.{scope-length, alike-at}
 use Rattle.ctc_constell.proofs.constell.ConstellCtcContractor.reads.Goals as goal
 

@@ -3,7 +3,7 @@ use Rattle.std.proofs.lemmas.List.FromFn.{length-map-range_with_len}
 use Rattle.tube_spec.specs.Narrowing.{narrowing_of}
 use Rattle.tube_spec.specs.Projection.{Projection}
 use Rattle.tube_spec.proofs.Monotone.{IfSome-map}
-use Rattle.point_cells.specs.Points.{numbers, cells_of}
+use Rattle.tube_names.specs.Points.{numbers, cells_of}
 use Rattle.ctc_constell.specs.Constellations.{constell_projection}
 use Rattle.ctc_constell.proofs.Reading.{projection-is}
 use Rattle.ctc_constell.proofs.constell.ConstellCtcFormulas.given.Goals as goal

@@ -1,10 +1,10 @@
 use Rattle.std.proofs.Common.{arith, sym, ap, ◌∙◌, length, map}
 use Rattle.std.proofs.lemmas.List.FromFn.{length-map-range_with_len}
 use Rattle.tube_spec.specs.Projection.{Projection}
-use Rattle.point_cells.specs.Points.{numbers, cells_of}
+use Rattle.tube_names.specs.Points.{numbers, cells_of}
 use Rattle.ctc_constell.specs.Constellations.{constell_projection}
 use Rattle.ctc_constell.proofs.Reading.{projection-is}
-use Rattle.point_cells.proofs.Numbers.{named-at, cells-length, cell-at}
+use Rattle.tube_names.proofs.Numbers.{named-at, cells-length, cell-at}
 use Rattle.ctc_constell.proofs.constell.ConstellCtcFormulas.target.Goals as goal
 
 pub var-requires : goal.var-requires

@@ -2,7 +2,7 @@ use Rattle.std.proofs.Common.{arith, sym, ap, ap₂, ◌∙◌, length}
 use Rattle.tube_spec.specs.Span.{sub_of}
 use Rattle.tube_spec.specs.Box.{cell_at}
 use Rattle.tube_spec.proofs.Monotone.{IfSome-map2}
-use Rattle.point_cells.proofs.Numbers.{named-at, cell-at}
+use Rattle.tube_names.proofs.Numbers.{named-at, cell-at}
 use Rattle.ctc_dist.proofs.dist.DistCtc.difference.Goals as goal
 
 pub value-requires-clause-named : goal.value-requires-clause-named

@@ -3,8 +3,8 @@ use Rattle.tube_spec.specs.Span.{Span, add_of}
 use Rattle.tube_spec.specs.Narrowing.{Within, narrowing_of}
 use Rattle.tube_spec.specs.Box.{cell_at}
 use Rattle.tube_spec.proofs.Monotone.{IfSome-map2}
-use Rattle.point_cells.specs.Points.{numbers, cells_of}
-use Rattle.point_cells.proofs.Numbers.{named-at, cell-at}
+use Rattle.tube_names.specs.Points.{numbers, cells_of}
+use Rattle.tube_names.proofs.Numbers.{named-at, cell-at}
 use Rattle.ctc_dist.proofs.dist.DistCtc.forth.Goals as goal
 
 pub value-requires-clause-named : goal.value-requires-clause-named

@@ -2,7 +2,7 @@ use Rattle.std.proofs.Common.{◌≡◌, ◌+ℤ◌, arith, sym, ap, ap₂, ◌�
 use Rattle.std.proofs.lemmas.Int.{ints}
 use Rattle.tube_spec.specs.Span.{Span, add_of}
 use Rattle.tube_spec.proofs.Monotone.{IfSome-map2}
-use Rattle.point_cells.specs.Points.{numbers, cells_of}
+use Rattle.tube_names.specs.Points.{numbers, cells_of}
 use Rattle.ctc_dist.specs.Distances.{square_but}
 use Rattle.ctc_dist.proofs.Reading.{span_sum-more}
 use Rattle.ctc_dist.proofs.dist.DistCtc.other_squares.Goals as goal

@@ -1,6 +1,6 @@
 use Rattle.std.proofs.Common.{◌≡◌, ◌*◌, IfSome, pos}
 use Rattle.tube_spec.specs.Span.{IsWithin}
-use Rattle.point_cells.specs.Points.{numbers, cells_of}
+use Rattle.tube_names.specs.Points.{numbers, cells_of}
 use Rattle.ctc_dist.specs.Distances.{span_sum_below, square_but}
 use Rattle.ctc_dist.proofs.dist.DistCtc.other_squares.Given as goal
 

@@ -1,8 +1,8 @@
 use Rattle.std.proofs.Common.{arith, length-append}
-use Rattle.point_cells.specs.Points.{numbers, cells_of}
+use Rattle.tube_names.specs.Points.{numbers, cells_of}
 use Rattle.ctc_dist.specs.Distances.{squares_from}
 use Rattle.ctc_dist.proofs.Reading.{dimension-is, projections-length}
-use Rattle.point_cells.proofs.Numbers.{cells-length}
+use Rattle.tube_names.proofs.Numbers.{cells-length}
 use Rattle.ctc_dist.proofs.dist.DistCtcContractor.reads.Goals as goal
 
 pub returns : goal.returns

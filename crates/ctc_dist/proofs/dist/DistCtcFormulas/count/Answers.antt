@@ -1,5 +1,5 @@
 use Rattle.std.proofs.Common.{arith}
-use Rattle.point_cells.specs.Points.{numbers, cells_of}
+use Rattle.tube_names.specs.Points.{numbers, cells_of}
 use Rattle.ctc_dist.specs.Distances.{squares_from}
 use Rattle.ctc_dist.proofs.Reading.{dimension-is, projections-length}
 use Rattle.ctc_dist.proofs.dist.DistCtcFormulas.count.Goals as goal

@@ -1,10 +1,10 @@
 use Rattle.std.proofs.Common.{◌≡◌, ◌-◌, ◌<◌, ◌≤◌, ℕ, arith, rules, sym, ap, ◌∙◌}
 use Rattle.tube_spec.specs.Projection.{Projection}
 use Rattle.tube_spec.proofs.Monotone.{IfSome-map}
-use Rattle.point_cells.specs.Points.{numbers, cells_of}
+use Rattle.tube_names.specs.Points.{numbers, cells_of}
 use Rattle.ctc_dist.specs.Distances.{squares_from, dimension, back}
 use Rattle.ctc_dist.proofs.Reading.{dimension-is, projections-length, forth-at, back-at}
-use Rattle.point_cells.proofs.Numbers.{numbers-length}
+use Rattle.tube_names.proofs.Numbers.{numbers-length}
 use Rattle.ctc_dist.proofs.dist.DistCtcFormulas.given.Goals as goal
 
 pub back-requires : goal.back-requires

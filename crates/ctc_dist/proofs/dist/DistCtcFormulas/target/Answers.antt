@@ -1,8 +1,8 @@
 use Rattle.std.proofs.Common.{◌≡◌, ◌+◌, ◌<◌, ◌≤◌, arith, rules, ap, ◌∙◌, length, slice_index}
-use Rattle.point_cells.specs.Points.{numbers, cells_of}
+use Rattle.tube_names.specs.Points.{numbers, cells_of}
 use Rattle.ctc_dist.specs.Distances.{squares_from}
 use Rattle.ctc_dist.proofs.Reading.{dimension-is, projections-length, scope-at, target-at}
-use Rattle.point_cells.proofs.Numbers.{numbers-length, cells-length}
+use Rattle.tube_names.proofs.Numbers.{numbers-length, cells-length}
 use Rattle.ctc_dist.proofs.dist.DistCtcFormulas.target.Goals as goal
 
 pub var-requires : goal.var-requires

@@ -1,9 +1,10 @@
 use Rattle.std.proofs.Common.{◌≡◌, ◌<◌, List, length, sym, ap, subst, ◌∙◌, arith}
 use Rattle.std.proofs.lemmas.List.{length-map}
-use Rattle.expr_hc4.specs.declared.places.Leaf.{Leaf}
-use Rattle.expr_hc4.specs.Places.{leaf_cell, LeafFits, first_uses}
+use Rattle.tube_names.specs.declared.leaves.Leaf.{Leaf}
+use Rattle.expr_hc4.specs.Places.{leaf_cell, LeafFits}
+use Rattle.tube_names.specs.Leaves.{first_uses}
 use Rattle.expr_hc4.specs.Programs.{Program}
-use Rattle.expr_hc4.specs.Uses.{uses-all}
+use Rattle.tube_names.proofs.Uses.{uses-all}
 use Rattle.expr_hc4.proofs.Counts.{leaf_at}
 use Rattle.expr_hc4.proofs.contractor.ExprCtcContractor.read.Goals as goal
 

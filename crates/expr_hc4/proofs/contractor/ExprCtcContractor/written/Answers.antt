@@ -1,6 +1,6 @@
 use Rattle.std.proofs.Common.{◌≡◌, ◌<◌, List, length, sym, ap, subst, ◌∙◌}
 use Rattle.expr_values.specs.Targets.{entry_narrowing}
-use Rattle.expr_hc4.specs.declared.places.Leaf.{Leaf}
+use Rattle.tube_names.specs.declared.leaves.Leaf.{Leaf}
 use Rattle.expr_hc4.specs.Places.{leaf_cell, leaf_cells, LeafFits}
 use Rattle.expr_hc4.specs.Projections.{entries_at}
 use Rattle.expr_hc4.specs.Programs.{bound_comparison, Program}

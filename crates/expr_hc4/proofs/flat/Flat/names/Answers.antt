@@ -1,6 +1,6 @@
 use Rattle.std.proofs.Common.{◌≡◌, length, ap, arith}
-use Rattle.expr_hc4.specs.declared.places.Leaf.{Leaf}
-use Rattle.expr_hc4.specs.Uses.{uses-length}
+use Rattle.tube_names.specs.declared.leaves.Leaf.{Leaf}
+use Rattle.tube_names.proofs.Uses.{uses-length}
 use Rattle.expr_hc4.proofs.flat.Flat.names.Goals as goal
 
 pub returns-clause-few : goal.returns-clause-few

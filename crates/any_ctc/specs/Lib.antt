@@ -1,0 +1,3 @@
+pub mod Constraints
+pub mod ConstraintLaws
+pub mod Contractors

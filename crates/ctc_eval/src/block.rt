@@ -1,0 +1,131 @@
+//! What the signal may come to at each gate of a block, and a block as projections.
+
+ghost use Rattle.std.specs.Prelude.{◌≡◌, ◌+◌, ◌<◌, ◌≤◌, ℕ, IsSome, None, length, slice_index, slice_index_or};
+ghost use Rattle.tube_spec.specs.Grid.{last_tick};
+ghost use Rattle.tube_spec.specs.Narrowing.{narrowing_of};
+ghost use Rattle.ctc_core.specs.Given.{narrowing_given};
+ghost use Rattle.ctc_eval.specs.Clock.{cells_of};
+ghost use Rattle.ctc_eval.specs.Blocks.{IsFromAll};
+ghost use Rattle.ctc_eval.specs.Walks.{IsFromAfter};
+
+use super::sweep::Sweep;
+use ctc_core::{Formulas, Given};
+use int_interval::Interval;
+use slice_gates::Ticks;
+use tube_store::{CellId, SignalId, Store};
+
+/// A hull as what a formula gives.
+pub fn given_of(hull: Option<Interval>) -> Given
+    ensures { narrowing_given result ≡ narrowing_of hull }
+{
+    match hull {
+        Some(hull) => Given::Within(hull),
+        None => Given::Nothing,
+    }
+}
+
+/// Gates of a signal one after another, at most sixteen, and what is kept of each: what its formula gives in one box.
+#[derive(Clone, Copy)]
+pub struct Block {
+    /// The signal.
+    pub x: SignalId,
+    /// The number of the first gate.
+    pub first: u32,
+    /// How many gates there are.
+    pub count: u32,
+    /// What is kept of each.
+    pub hulls: [Option<Interval>; 17],
+}
+
+impl Formulas for Block {
+    ghost use Rattle.ctc_eval.specs.Blocks.{block_projections, BlockFits};
+    ghost use Rattle.ctc_eval.specs.BlockLaws.{block-monotone, block-in_store};
+
+    ghost projections = { λ b s. block_projections s b };
+
+    ghost fits = { λ b s box. BlockFits s b };
+
+    ghost monotone = { λ b s. block-monotone (λ xs. BlockFits s b) s b };
+
+    ghost fits_below = { λ b s lesser greater low fits. fits };
+
+    ghost in_store = { λ b s box shape fits. block-in_store s b shape fits };
+
+    fn count(&self, _store: &Store) -> u32 {
+        self.count
+    }
+
+    fn target(&self, store: &Store, i: u32) -> CellId {
+        store.known();
+        store.gate(self.x, self.first + i)
+    }
+
+    fn given(&self, _store: &Store, i: u32) -> Given {
+        given_of(self.hulls[i as usize])
+    }
+}
+
+// What the ticks after each gate of a block give at it, from the last gate back. The last entry is nothing.
+fn hulls_after(
+    sweep: &Sweep,
+    store: &Store,
+    rate: SignalId,
+    ticks: Ticks,
+    first: u32,
+    count: u32,
+) -> [Option<Interval>; 17]
+    requires signal { sweep.now.x.0 < length store.now.shape.signals }
+    requires rate { rate.0 < length store.now.shape.signals }
+    requires value { sweep.now.z.0 < length store.now.shape.vars }
+    requires clock { ticks.last ≤ last_tick store.now.shape.grid }
+    requires some { 0 < count }
+    requires few { count ≤ 16 }
+    requires gates { first + count ≤ length store.now.shape.grid }
+    requires filled { IsSome store.now.box }
+    ensures room { length result ≡ 17 }
+    ensures spare { slice_index_or result 16 None ≡ None }
+    ensures after { (k : ℕ) → k < count → IsFromAfter store.now.shape sweep.now.x.0 rate.0 sweep.now.z.0 (cells_of store.now.box) ticks (slice_index store.now.shape.grid (first + k)) (slice_index_or result k None) }
+{
+    store.known();
+    let mut hulls: [Option<Interval>; 17] = [None; 17];
+    let mut at = ticks.last.max(store.grid().boundary(first + (count - 1)));
+    for j in (0..count).rev() {
+        let tick = store.grid().boundary(first + j);
+        hulls[j as usize] = sweep.carried_back(store, rate, ticks, at, tick, hulls[j as usize + 1]);
+        at = tick;
+    }
+    hulls
+}
+
+/// What the signal may come to at each gate of a block, by its rate: back through the block, and then on. The last entry has what the ticks
+/// before the gate at hand give at it.
+pub fn hulls_whole(
+    sweep: &Sweep,
+    store: &Store,
+    rate: SignalId,
+    ticks: Ticks,
+    first: u32,
+    count: u32,
+) -> [Option<Interval>; 17]
+    requires signal { sweep.now.x.0 < length store.now.shape.signals }
+    requires rate { rate.0 < length store.now.shape.signals }
+    requires value { sweep.now.z.0 < length store.now.shape.vars }
+    requires clock { ticks.last ≤ last_tick store.now.shape.grid }
+    requires some { 0 < count }
+    requires few { count ≤ 16 }
+    requires gates { first + count ≤ length store.now.shape.grid }
+    requires filled { IsSome store.now.box }
+    ensures room { length result ≡ 17 }
+    ensures whole { (k : ℕ) → k < count → IsFromAll store.now.shape sweep.now.x.0 rate.0 sweep.now.z.0 (cells_of store.now.box) ticks (first + k) (slice_index_or result k None) }
+{
+    store.known();
+    let mut hulls = hulls_after(sweep, store, rate, ticks, first, count);
+    let mut at = ticks.first.min(store.grid().boundary(first));
+    for j in 0..count {
+        let tick = store.grid().boundary(first + j);
+        hulls[16] = sweep.carried_on(store, rate, ticks, at, tick, hulls[16]);
+        hulls[j as usize] = sweep.come_to(store, ticks, tick, hulls[16], hulls[j as usize]);
+        at = tick;
+    }
+    hulls
+}
