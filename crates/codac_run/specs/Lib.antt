@@ -1,3 +1,6 @@
+pub mod Plans
 pub mod Hearing
+pub mod Tails
 pub mod Reports
+pub mod Statuses
 pub mod Telling

@@ -1,5 +1,5 @@
 -- What a run writes and hands out, and what its report says.
-use Rattle.std.specs.Prelude.{◌≡◌, ℕ, ◌⊎◌, Bool, true, false, ◌||◌, List, Option, Some, None, IsSomeAnd, option_map, IsFalse, Result, Ok, Err, All, [], ◌∷◌, ◌++◌, ◌+◌, length, take}
+use Rattle.std.specs.Prelude.{◌≡◌, ℕ, ◌⊎◌, Bool, true, List, Option, Some, None, IsSomeAnd, option_map, IsFalse, Result, Ok, Err, All, [], ◌∷◌, ◌++◌, ◌+◌, ◌<◌, length}
 use Rattle.tube_spec.specs.Span.{Span}
 use Rattle.tube_spec.specs.Box.{measure_of}
 use Rattle.tube_io.specs.Moves.{AllFlushed}
@@ -8,27 +8,24 @@ use Rattle.std.specs.Io.KnownBytes.{Appends}
 use Rattle.ctc_network.specs.Nets.{NetState}
 use Rattle.ctc_network.specs.declared.answers.Settled.{Settled}
 use Rattle.ctc_network.specs.declared.answers.Settled.TheVariants as answer
-use Rattle.log_fields.specs.declared.fault.Cause.{Cause}
-use Rattle.hull_tree.specs.declared.revisit.Query.{Query}
 use Rattle.loop_report.specs.declared.found.Found.{Found}
-use Rattle.mission_items.specs.declared.item.Item.{Item}
 use Rattle.mission_items.specs.declared.mission.Mission.{Mission}
-use Rattle.mission_loops.specs.Queries.{queries}
-use Rattle.mission_loops.specs.Findings.{AreTold}
 use Rattle.mission_loops.specs.Texts.{findings_text, last_told}
-use Rattle.cli_words.specs.declared.answer.Asked.{Asked}
-use Rattle.cli_words.specs.declared.answer.Mode.{Mode}
-use Rattle.cli_words.specs.declared.answer.Mode.TheVariants as mode
 use Rattle.mission_net.specs.Building.{IsNetOf, IsSpentAs}
-use Rattle.mission_net.specs.declared.AnyCtc.{AnyCtc}
-use Rattle.tube_report.specs.Causes.{fault_line, usage_line}
-use Rattle.section_report.specs.Sections.{Section, AreSections, AreSectionsTo, AreUnspent, AreAll}
+use Rattle.mission_net.specs.Records.{shape_by}
+use Rattle.any_ctc.specs.declared.AnyCtc.{AnyCtc}
+use Rattle.tube_report.specs.Causes.{usage_line}
+use Rattle.section_report.specs.Sections.{Section, items_of, AreSections, AreSectionsTo, AreUnspent, AreAll}
 use Rattle.section_report.specs.Texts.{verdict_of, report_text}
 use Rattle.tube_report.specs.declared.section.Verdict.{Verdict}
 use Rattle.tube_report.specs.declared.section.Verdict.TheVariants as verdict
 use Rattle.demo_spec.specs.Mission.{demo_mission}
 use Rattle.mission_log.specs.Log.{log_of}
-use Rattle.codac_run.specs.Hearing.{Hears, log_heard}
+use Rattle.codac_run.specs.Hearing.{Hears, TellsLowest, judged, log_heard}
+use Rattle.codac_run.specs.Tails.{AreToldOf, AreAllTold}
+use Rattle.codac_run.specs.declared.plan.Origin.{Origin}
+use Rattle.codac_run.specs.declared.plan.Origin.TheVariants as origin
+use Rattle.codac_run.specs.declared.plan.Plan.{Plan}
 use Rattle.codac_run.specs.declared.ended.Status.{Status}
 use Rattle.codac_run.specs.declared.ended.Status.TheVariants as status
 use Rattle.codac_run.specs.declared.ended.SpentAt.{SpentAt}
@@ -36,46 +33,30 @@ use Rattle.codac_run.specs.declared.ended.Ended.{Ended}
 
 -- ---- what is asked
 
-abbrev pub is_demo : Mode → Bool
-is_demo mode.Demo = true
-is_demo other = false
+-- the log that a plan is for: the demo mission of the seed, which is accepted, or what the bytes of the source are, if they are told
+abbrev pub log_from : Origin → Option (List ℕ) → Option (Result Mission (List ℕ))
+log_from (origin.Demo seed) left = Some (Ok (demo_mission seed))
+log_from origin.Source left = option_map (λ bytes. judged (log_of bytes)) left
 
--- the log that is asked for: the demo mission of the seed, which is accepted, or what the bytes of the source are, if they are told
-abbrev pub log_asked : Asked → Option (List ℕ) → Option (Result Mission (ℕ × Cause))
-log_asked asked left = by asked.mode
-  where
-    by : Mode → Option (Result Mission (ℕ × Cause))
-    by mode.Demo = Some (Ok (demo_mission asked.seed))
-    by other = option_map log_of left
+abbrev pub log_planned : Plan → Option (List ℕ) → Option (Result Mission (List ℕ))
+log_planned plan left = log_from plan.origin left
 
--- the words are wrong or ask for a demo
-abbrev pub IsUnread : Option Asked → Type 0
+-- the words are wrong, or the log is made
+abbrev pub IsUnread : Option Plan → Type 0
 IsUnread None = Unit {0}
-IsUnread (Some asked) = asked.mode ≡ mode.Demo
-
--- a demo is told in brief
-abbrev pub is_brief : Asked → Bool
-is_brief asked = asked.brief || is_demo asked.mode
-
--- whether findings are asked for
-abbrev pub is_looping : Mode → Bool
-is_looping mode.Solve = false
-is_looping other = true
-
--- the queries of which findings are asked for
-abbrev pub asked_queries : Mode → List Item → List Query
-asked_queries mode.Solve items = []
-asked_queries other items = queries items
+IsUnread (Some plan) = (seed : ℕ) × (plan.origin ≡ origin.Demo seed)
 
 -- ---- what is handed out
 
--- where the budget was spent: in the last section, whose measure fell by it at least, and the contractor named still narrows its box
+-- where the budget was spent: in the last section, whose measure fell by it at least, and the contractor named still narrows its box, which is
+-- handed out in the shape of its records
 pub record IsSpent (m : Mission) (budget number : ℕ) (last : Section) (at : SpentAt) : Type 0 where
   pub numbered : at.section ≡ number
   pub held : at.store.box ≡ last.box
+  pub shape : at.store.shape ≡ shape_by m.cuts (items_of m last)
   pub before : at.began ≡ last.began
   pub after : at.now ≡ measure_of last.box
-  pub cause : IsSpentAs m.cuts (take last.upto m.items) last.box at.began budget (answer.Spent at.ctc)
+  pub cause : IsSpentAs m.cuts (items_of m last) last.box at.began budget (answer.Spent at.ctc)
 
 -- it is handed out exactly where the last section was spent
 abbrev pub HandsSpent : Mission → ℕ → ℕ → Section → Settled → Option SpentAt → Type 0
@@ -88,25 +69,25 @@ pub record IsSettledNet (m : Mission) (box : Option (List Span)) (net : NetState
   pub held : net.store.box ≡ box
   pub rests : All IsFalse net.waiting
 
--- the net is handed out exactly where the status is Settled
-abbrev pub HandsNet : Mission → Option (List Span) → Status → Option (NetState AnyCtc) → Type 0
-HandsNet m box status.Settled net = IsSomeAnd net (IsSettledNet m box)
-HandsNet m box other net = net ≡ None
+-- the net is handed out exactly where the plan hands out and the status is Settled
+abbrev pub HandsNet : Bool → Mission → Option (List Span) → Status → Option (NetState AnyCtc) → Type 0
+HandsNet true m box status.Settled net = IsSomeAnd net (IsSettledNet m box)
+HandsNet hands_out m box other net = net ≡ None
 
--- what is told of the last query is handed out where the status is Settled
-abbrev pub HandsFound : Status → Option (List Found) → Option (List Found) → Type 0
-HandsFound status.Settled found handed = handed ≡ found
-HandsFound other found handed = handed ≡ None
+-- what is told of the last query is handed out where the plan hands out and the status is Settled
+abbrev pub HandsFound : Bool → Status → Option (List Found) → Option (List Found) → Type 0
+HandsFound true status.Settled found handed = handed ≡ found
+HandsFound hands_out other found handed = handed ≡ None
 
 -- what is handed out of a net whose last settling ended so
 abbrev pub HandsWhere : Settled → ℕ → ℕ → NetState AnyCtc → Option SpentAt → Type 0
 HandsWhere (answer.Spent id) number began net spent = spent ≡ Some (record { section = number; ctc = id; began = began; now = measure_of net.store.box; store = net.store })
 HandsWhere other number began net spent = spent ≡ None
 
--- the net is handed out where the status is Settled
-abbrev pub HandsNetWhere : Status → NetState AnyCtc → Option (NetState AnyCtc) → Type 0
-HandsNetWhere status.Settled net handed = handed ≡ Some net
-HandsNetWhere other net handed = handed ≡ None
+-- the net is handed out where the plan hands out and the status is Settled
+abbrev pub HandsNetWhere : Bool → Status → NetState AnyCtc → Option (NetState AnyCtc) → Type 0
+HandsNetWhere true status.Settled net handed = handed ≡ Some net
+HandsNetWhere hands_out other net handed = handed ≡ None
 
 -- a run whose section was spent does not end as settled
 abbrev pub IsSettledOnly : Settled → Status → Type 0
@@ -126,8 +107,8 @@ Writes text planned old new flushed ended =
     ((ended ≡ planned) × Appends old new text × AllFlushed flushed new) ⊎ ((ended ≡ status.WriteFault) × AppendsPrefix old new text)
 
 -- the texts of sections, and of what is told of queries
-abbrev pub run_text : Mission → Asked → List Section → List (Option (List Found)) → List ℕ
-run_text m asked sections told = report_text m (is_brief asked) sections ++ findings_text (is_brief asked) told
+abbrev pub run_text : Mission → Plan → List Section → List (Option (List Found)) → List ℕ
+run_text m plan sections told = report_text m plan.sections.brief sections ++ findings_text plan.sections.brief told
 
 -- nothing is handed out
 pub record IsBare (e : Ended) : Type 0 where
@@ -141,80 +122,71 @@ Stops s old new e = (e.status ≡ s) × (new ≡ old) × IsBare e
 
 -- ---- how a run ends
 
--- What is told of the first queries that are asked for, over the box of a section of the mission.
-abbrev pub AreToldOf : Mission → Asked → Section → List (Option (List Found)) → Type 0
-AreToldOf m asked last told = AreTold m.cuts (take last.upto m.items) last.box (asked_queries asked.mode (take last.upto m.items)) told
-
--- they are all queries that are asked for
-abbrev pub AreAllTold : Mission → Asked → Section → List (Option (List Found)) → Type 0
-AreAllTold m asked last told = length told ≡ length (asked_queries asked.mode (take last.upto m.items))
-
--- Over an accepted log: its sections up to a last one, and over the box of this what is told of the queries, of which the texts were written.
-pub record Reports (m : Mission) (asked : Asked) (old new : Option (List ℕ)) (flushed : Option ℕ) (e : Ended) : Type 0 where
+-- Over an accepted log: its sections up to a last one, and over the box of this what is told of the queries, of which the texts were written. Where
+-- anything is told, all sections are there. So what was written of it is a prefix of the whole report, also where the sink failed.
+pub record Reports (m : Mission) (plan : Plan) (old new : Option (List ℕ)) (flushed : Option ℕ) (e : Ended) : Type 0 where
   pub earlier : List Section
   pub last : Section
-  pub sections : AreSectionsTo m asked.budget earlier last
+  pub sections : AreSectionsTo m plan.sections.budget earlier last
   pub told : List (Option (List Found))
-  pub findings : AreToldOf m asked last told
-  pub writes : Writes (run_text m asked (earlier ++ last ∷ []) told) (status_of (verdict_of last.answer)) old new flushed e.status
-  pub all : (e.status ≡ status.WriteFault → ⊥) → AreAll m earlier last × AreAllTold m asked last told
-  pub spent : HandsSpent m asked.budget (length earlier + 1) last last.answer e.spent
-  pub net : HandsNet m last.box e.status e.net
-  pub found : HandsFound e.status (last_told told) e.found
+  pub findings : AreToldOf m plan last told
+  pub told_last : (told ≡ []) ⊎ AreAll m earlier last
+  pub writes : Writes (run_text m plan (earlier ++ last ∷ []) told) (status_of (verdict_of last.answer)) old new flushed e.status
+  pub all : (e.status ≡ status.WriteFault → ⊥) → AreAll m earlier last × AreAllTold m plan last told
+  pub spent : HandsSpent m plan.sections.budget (length earlier + 1) last last.answer e.spent
+  pub net : HandsNet plan.hands_out m last.box e.status e.net
+  pub found : HandsFound plan.hands_out e.status (last_told told) e.found
+
+-- What a run over an accepted log begins to write: the texts of its first sections, and after all of them of what is told of the first queries.
+pub record IsBeginning (m : Mission) (plan : Plan) (text : List ℕ) : Type 0 where
+  pub earlier : List Section
+  pub last : Section
+  pub sections : AreSectionsTo m plan.sections.budget earlier last
+  pub told : List (Option (List Found))
+  pub findings : AreToldOf m plan last told
+  pub told_last : (told ≡ []) ⊎ AreAll m earlier last
+  pub is : text ≡ run_text m plan (earlier ++ last ∷ []) told
+
+-- each of these texts, and so the whole report, is shorter than so many bytes
+abbrev pub IsShorter : Mission → Plan → ℕ → Type 0
+IsShorter m plan n = (text : List ℕ) → IsBeginning m plan text → length text < n
 
 -- over an accepted log where memory ran out: the texts of its first sections were written, of which none was spent
-pub record RunsOut (m : Mission) (asked : Asked) (old new : Option (List ℕ)) (e : Ended) : Type 0 where
+pub record RunsOut (m : Mission) (plan : Plan) (old new : Option (List ℕ)) (e : Ended) : Type 0 where
   pub ended : e.status ≡ status.NoMemory
   pub bare : IsBare e
   pub done : List Section
-  pub sections : AreSections m asked.budget done
+  pub sections : AreSections m plan.sections.budget done
   pub unspent : AreUnspent done
-  pub writes : Appends old new (report_text m (is_brief asked) done)
+  pub writes : Appends old new (report_text m plan.sections.brief done)
 
 -- over an accepted log where memory ran out among the queries: the texts of all sections and of the first queries were written
-pub record RunsOutAfter (m : Mission) (asked : Asked) (old new : Option (List ℕ)) (e : Ended) : Type 0 where
+pub record RunsOutAfter (m : Mission) (plan : Plan) (old new : Option (List ℕ)) (e : Ended) : Type 0 where
   pub ended : e.status ≡ status.NoMemory
   pub earlier : List Section
   pub last : Section
-  pub sections : AreSectionsTo m asked.budget earlier last
+  pub sections : AreSectionsTo m plan.sections.budget earlier last
   pub all : AreAll m earlier last
   pub told : List (Option (List Found))
-  pub findings : AreToldOf m asked last told
-  pub writes : Appends old new (run_text m asked (earlier ++ last ∷ []) told)
-  pub spent : HandsSpent m asked.budget (length earlier + 1) last last.answer e.spent
+  pub findings : AreToldOf m plan last told
+  pub writes : Appends old new (run_text m plan (earlier ++ last ∷ []) told)
+  pub spent : HandsSpent m plan.sections.budget (length earlier + 1) last last.answer e.spent
   pub net : e.net ≡ None
   pub found : e.found ≡ None
 
--- over a log that was heard: the line of its fault, or its report
-abbrev pub EndsBy : Result Mission (ℕ × Cause) → Asked → Option (List ℕ) → Option (List ℕ) → Option ℕ → Ended → Type 0
-EndsBy (Ok m) asked old new flushed e = RunsOut m asked old new e ⊎ RunsOutAfter m asked old new e ⊎ Reports m asked old new flushed e
-EndsBy (Err fault) asked old new flushed e = Writes (fault_line fault.0 fault.1) status.Refused old new flushed e.status × IsBare e
+-- over a log: its report, or the line that refuses it
+abbrev pub EndsBy : Result Mission (List ℕ) → Plan → Option (List ℕ) → Option (List ℕ) → Option ℕ → Ended → Type 0
+EndsBy (Ok m) plan old new flushed e = RunsOut m plan old new e ⊎ RunsOutAfter m plan old new e ⊎ Reports m plan old new flushed e
+EndsBy (Err line) plan old new flushed e = Writes line status.Refused old new flushed e.status × IsBare e
 
--- with right words: over the demo mission, or over what was heard of the source, unless the run stopped before
-abbrev pub EndsIn : Mode → Asked → Option (List ℕ) → Option (List ℕ) → Option (List ℕ) → Option ℕ → Ended → Type 0
-EndsIn mode.Demo asked left old new flushed e = Stops status.NoMemory old new e ⊎ EndsBy (Ok (demo_mission asked.seed)) asked old new flushed e
-EndsIn other asked left old new flushed e =
-    Stops status.NoMemory old new e ⊎ Stops status.ReadFault old new e ⊎ ((heard : Option (List ℕ)) × Hears left heard × EndsBy (log_heard heard) asked old new flushed e)
+-- over the demo mission, or over what was heard of the source, of which nothing is left then, unless the run stopped before
+abbrev pub EndsFrom : Origin → Plan → Option (List ℕ) → Option (List ℕ) → Option (List ℕ) → Option (List ℕ) → Option ℕ → Ended → Type 0
+EndsFrom (origin.Demo seed) plan left rest old new flushed e = Stops status.NoMemory old new e ⊎ EndsBy (Ok (demo_mission seed)) plan old new flushed e
+EndsFrom origin.Source plan left rest old new flushed e =
+    Stops status.NoMemory old new e ⊎ Stops status.ReadFault old new e
+    ⊎ ((heard : Option (List ℕ)) × Hears 67108864 left rest heard × TellsLowest heard × EndsBy (log_heard heard) plan old new flushed e)
 
--- with wrong words the usage line; with right ones the report of the log that they ask for, or the line of its fault
-abbrev pub Ends : Option Asked → Option (List ℕ) → Option (List ℕ) → Option (List ℕ) → Option ℕ → Ended → Type 0
-Ends None left old new flushed e = Stops status.NoMemory old new e ⊎ (Writes usage_line status.Usage old new flushed e.status × IsBare e)
-Ends (Some asked) left old new flushed e = EndsIn asked.mode asked left old new flushed e
-
--- ---- which statuses can come
-
--- wrong words
-abbrev pub IsUsageOrStopped : Status → Type 0
-IsUsageOrStopped s = (s ≡ status.Usage) ⊎ (s ≡ status.WriteFault) ⊎ (s ≡ status.NoMemory)
-
--- a log that is refused
-abbrev pub IsRefusedOrStopped : Status → Type 0
-IsRefusedOrStopped s = (s ≡ status.Refused) ⊎ (s ≡ status.ReadFault) ⊎ (s ≡ status.WriteFault) ⊎ (s ≡ status.NoMemory)
-
--- an accepted log
-abbrev pub IsReportedOrStopped : Status → Type 0
-IsReportedOrStopped s = (s ≡ status.Settled) ⊎ (s ≡ status.Empty) ⊎ (s ≡ status.Spent) ⊎ (s ≡ status.ReadFault) ⊎ (s ≡ status.WriteFault) ⊎ (s ≡ status.NoMemory)
-
--- an accepted log, where the budget is above what a section starts at and nothing failed
-abbrev pub IsWholeOrNoMemory : Status → Type 0
-IsWholeOrNoMemory s = (s ≡ status.Settled) ⊎ (s ≡ status.Empty) ⊎ (s ≡ status.NoMemory)
+-- with wrong words the usage line; with right ones what their plan is for
+abbrev pub Ends : Option Plan → Option (List ℕ) → Option (List ℕ) → Option (List ℕ) → Option (List ℕ) → Option ℕ → Ended → Type 0
+Ends None left rest old new flushed e = Stops status.NoMemory old new e ⊎ (Writes usage_line status.Usage old new flushed e.status × IsBare e)
+Ends (Some plan) left rest old new flushed e = EndsFrom plan.origin plan left rest old new flushed e

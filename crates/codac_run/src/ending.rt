@@ -20,6 +20,7 @@ pub(crate) fn finish<K: Sink>(
     requires { status ≡ Status.WriteFault → ⊥ }
     ensures writes { (old : K) (text : List ℕ) → Sends K.written K.flushed K.faults text old sink.old written → Writes text status (K.written old) (K.written sink.new) (K.flushed sink.new) result }
     ensures failed { (old : K) (text : List ℕ) → Sends K.written K.flushed K.faults text old sink.old written → result ≡ Status.WriteFault → Rose (K.faults old) (K.faults sink.new) }
+    ensures unflushed { (old : K) (text : List ℕ) → Sends K.written K.flushed K.faults text old sink.old written → result ≡ Status.WriteFault → K.flushed sink.new ≡ K.flushed old }
     ensures only { (result ≡ status) ⊎ (result ≡ Status.WriteFault) }
     ensures told { IsErr written → result ≡ Status.WriteFault }
     ensures later { K.faults sink.old ≤ K.faults sink.new }
@@ -37,6 +38,7 @@ pub(crate) fn finish<K: Sink>(
 pub(crate) fn usage<K: Sink>(sink: &mut K) -> Ended
     ensures writes { Writes usage_line Status.Usage (K.written sink.old) (K.written sink.new) (K.flushed sink.new) result.status × IsBare result }
     ensures failed { result.status ≡ Status.WriteFault → Rose (K.faults sink.old) (K.faults sink.new) }
+    ensures unflushed { result.status ≡ Status.WriteFault → K.flushed sink.new ≡ K.flushed sink.old }
 {
     let written = write_usage(sink);
     Ended::only(finish(sink, written, Status::Usage))
@@ -46,6 +48,7 @@ pub(crate) fn usage<K: Sink>(sink: &mut K) -> Ended
 pub(crate) fn refuse<K: Sink>(sink: &mut K, number: u32, cause: Cause) -> Ended
     ensures writes { Writes (fault_line number cause) Status.Refused (K.written sink.old) (K.written sink.new) (K.flushed sink.new) result.status × IsBare result }
     ensures failed { result.status ≡ Status.WriteFault → Rose (K.faults sink.old) (K.faults sink.new) }
+    ensures unflushed { result.status ≡ Status.WriteFault → K.flushed sink.new ≡ K.flushed sink.old }
 {
     let written = write_fault(number, cause, sink);
     Ended::only(finish(sink, written, Status::Refused))

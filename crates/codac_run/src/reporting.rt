@@ -4,31 +4,24 @@ ghost use Rattle.std.specs.Prelude.{◌≡◌, ◌≤◌, ◌⊎◌, ◌&&◌, I
 ghost use Rattle.tube_io.specs.Causes.{Rose};
 ghost use Rattle.mission_items.specs.Valid.{IsMission};
 ghost use Rattle.mission_net.specs.Records.{shape_by, Encloses};
-ghost use Rattle.codac_run.specs.Reports.{is_brief, is_looping, status_of, Stops, RunsOut, RunsOutAfter, Reports, HandsWhere, HandsNetWhere, HandsFound, IsSettledOnly};
+ghost use Rattle.codac_run.specs.Reports.{status_of, Stops, RunsOut, RunsOutAfter, Reports, HandsWhere, HandsNetWhere, HandsFound, IsSettledOnly};
+ghost use Rattle.codac_run.specs.Tails.{is_telling};
 ghost use Rattle.codac_run.specs.Telling.{AreToldAfter, AreCutShortAfter};
 
-use crate::clock::same_grid;
 use crate::ended::{Ended, SpentAt, Status};
 use crate::ending::finish;
-use cli_words::{Asked, Mode, OrderWord};
-use ctc_network::{Net, Order, Settled};
+use crate::plan::{Plan, Tail};
+use ctc_network::{Net, Settled};
 use mission_items::Mission;
 use mission_loops::{Findings, FoundSets, write_findings};
 use mission_net::AnyCtc;
-use section_report::{Choices, LastSection, verdict_of, write_sections};
+use section_report::{LastSection, verdict_of, write_sections};
 use std::alloc::Global;
 use std::sync::ledger::Ledger;
 use step_count::Steps;
 use tube_io::{NoMemory, Sink};
 use tube_report::Verdict;
 use tube_store::Store;
-
-/// Whether a report is in brief: that of a demo always is.
-fn is_brief(asked: &Asked) -> bool
-    ensures { result ≡ is_brief asked.now }
-{
-    asked.brief || asked.mode == Mode::Demo
-}
 
 /// The status of a run whose last section has a verdict.
 fn status_of(verdict: Verdict) -> Status
@@ -41,22 +34,19 @@ fn status_of(verdict: Verdict) -> Status
     }
 }
 
-/// The order of firing that a word names.
-fn order_of(word: OrderWord) -> Order {
-    match word {
-        OrderWord::Fifo => Order::Fifo,
-        OrderWord::Lifo => Order::Lifo,
-        OrderWord::Rank => Order::Rank,
-    }
-}
-
 /// What is handed out beside a status, over the net of the last section and what is told of the last query.
-fn handed(status: Status, section: LastSection, net: Net<AnyCtc>, found: Option<FoundSets>) -> Ended
+fn handed(
+    plan: &Plan,
+    status: Status,
+    section: LastSection,
+    net: Net<AnyCtc>,
+    found: Option<FoundSets>,
+) -> Ended
     requires { IsSettledOnly section.end.answer status }
     ensures status { result.status ≡ status }
-    ensures found { HandsFound status found result.found }
+    ensures found { HandsFound plan.now.hands_out status found result.found }
     ensures spent { HandsWhere section.end.answer section.number section.end.began net result.spent }
-    ensures net { HandsNetWhere status net result.net }
+    ensures net { HandsNetWhere plan.now.hands_out status net result.net }
 {
     if let Settled::Spent(ctc) = section.end.answer {
         let store = net.into_store();
@@ -73,7 +63,7 @@ fn handed(status: Status, section: LastSection, net: Net<AnyCtc>, found: Option<
             found: None,
         };
     }
-    if status != Status::Settled {
+    if status != Status::Settled || !plan.hands_out {
         return Ended::only(status);
     }
     Ended {
@@ -84,20 +74,21 @@ fn handed(status: Status, section: LastSection, net: Net<AnyCtc>, found: Option<
     }
 }
 
-/// Whether queries are told: findings are asked for, and the sections were written.
-fn is_told(asked: &Asked, section: &LastSection) -> bool
-    ensures { result ≡ (is_looping asked.now.mode && is_ok section.now.written) }
+/// Whether queries are told: the plan tells of them, and the sections were written.
+fn is_told(plan: &Plan, section: &LastSection) -> bool
+    ensures { result ≡ (is_telling plan.now.tail && is_ok section.now.written) }
 {
-    match asked.mode {
-        Mode::Solve => false,
-        Mode::Loops | Mode::Demo => section.written.is_ok(),
+    match plan.tail {
+        Tail::Nothing => false,
+        Tail::Findings => section.written.is_ok(),
     }
 }
 
-/// Tells what is found of the queries over the net of the last section and writes it, where it is asked for and the sections were written.
+/// Tells what is found of the queries over the net of the last section and writes it, where the plan tells of them and the sections were
+/// written.
 fn tell<K: Sink, L: Ledger>(
     alloc: Global,
-    asked: &Asked,
+    plan: &Plan,
     mission: &Mission,
     section: &LastSection,
     store: &Store,
@@ -108,16 +99,16 @@ fn tell<K: Sink, L: Ledger>(
     requires within { section.now.upto ≤ length mission.now.items }
     requires shape { store.now.shape ≡ shape_by mission.now.cuts (take section.now.upto mission.now.items) }
     requires encloses { Encloses mission.now.cuts (take section.now.upto mission.now.items) store.now.box }
-    ensures told { IfOk result (λ findings. AreToldAfter K.written K.flushed K.faults mission.now asked.now section.now store.now.box sink.old sink.new findings) }
-    ensures cut_short { OnErr result (AreCutShortAfter K.written K.flushed K.faults mission.now asked.now section.now store.now.box sink.old sink.new) }
+    ensures told { IfOk result (λ findings. AreToldAfter K.written K.flushed K.faults mission.now plan.now section.now store.now.box sink.old sink.new findings) }
+    ensures cut_short { OnErr result (AreCutShortAfter K.written K.flushed K.faults mission.now plan.now section.now store.now.box sink.old sink.new) }
 {
-    if is_told(asked, section) {
+    if is_told(plan, section) {
         return write_findings(
             alloc,
             mission,
             section.upto,
             store,
-            is_brief(asked),
+            plan.sections.brief,
             sink,
             steps,
         );
@@ -128,34 +119,30 @@ fn tell<K: Sink, L: Ledger>(
     })
 }
 
-/// Settles the sections of a mission one after the other, and writes each; then it tells what is found of the queries, if that is asked for.
+/// Settles the sections of a mission one after the other, and writes each; then it tells what is found of the queries, if the plan does.
 pub(crate) fn report<K: Sink, L: Ledger>(
     alloc: Global,
-    asked: &Asked,
+    plan: &Plan,
     mission: &Mission,
     sink: &mut K,
     steps: &mut Steps<L>,
 ) -> Ended
     requires { IsMission mission.now }
-    ensures ends { Stops Status.NoMemory (K.written sink.old) (K.written sink.new) result ⊎ (RunsOut mission.now asked.now (K.written sink.old) (K.written sink.new) result ⊎ RunsOutAfter mission.now asked.now (K.written sink.old) (K.written sink.new) result ⊎ Reports mission.now asked.now (K.written sink.old) (K.written sink.new) (K.flushed sink.new) result) }
+    ensures ends { Stops Status.NoMemory (K.written sink.old) (K.written sink.new) result ⊎ (RunsOut mission.now plan.now (K.written sink.old) (K.written sink.new) result ⊎ RunsOutAfter mission.now plan.now (K.written sink.old) (K.written sink.new) result ⊎ Reports mission.now plan.now (K.written sink.old) (K.written sink.new) (K.flushed sink.new) result) }
     ensures failed { result.status ≡ Status.WriteFault → Rose (K.faults sink.old) (K.faults sink.new) }
+    ensures unflushed { result.status ≡ Status.WriteFault → K.flushed sink.new ≡ K.flushed sink.old }
 {
-    let Ok(grid) = same_grid(alloc, &mission.cuts) else {
+    let Ok(grid) = mission.cuts.copy(alloc) else {
         return Ended::only(Status::NoMemory);
     };
     let mut net = Net::new(alloc, grid);
-    let choices = Choices {
-        order: order_of(asked.order),
-        budget: asked.budget,
-        brief: is_brief(asked),
-    };
-    let Ok(section) = write_sections(alloc, mission, choices, &mut net, sink, steps) else {
+    let Ok(section) = write_sections(alloc, mission, plan.sections, &mut net, sink, steps) else {
         return Ended::only(Status::NoMemory);
     };
-    let Ok(findings) = tell(alloc, asked, mission, &section, net.store(), sink, steps) else {
-        return handed(Status::NoMemory, section, net, None);
+    let Ok(findings) = tell(alloc, plan, mission, &section, net.store(), sink, steps) else {
+        return handed(plan, Status::NoMemory, section, net, None);
     };
     let planned = status_of(verdict_of(section.end.answer));
     let status = finish(sink, findings.written, planned);
-    handed(status, section, net, findings.last)
+    handed(plan, status, section, net, findings.last)
 }

@@ -1,11 +1,11 @@
 //! Logs that are read into missions, record by record. What is refused, and why, stands in the tables of `tests/logs`, which the built
 //! program is run on.
 
-use hull_tree::Norm;
 use mission_log::{Cause, Item, LogFault, Mission, read_log};
 use std::alloc::Global;
 use std::test::Fail;
 use tube_io::Text;
+use tube_names::Norm;
 
 #[test]
 fn reads_the_first_kinds(rt: HostRuntime) -> Result<(), Fail> {

@@ -11,8 +11,8 @@ use Rattle.log_spelling.specs.declared.reference.Part.TheVariants as part
 use Rattle.expr_tree.specs.Trees.{Tree, Number, Named, Apply, Join, Relation}
 use Rattle.expr_tree.specs.Measures.{nodes, relation_names}
 use Rattle.expr_text.specs.Spellable.{IsPrintable}
-use Rattle.expr_hc4.specs.declared.places.Leaf.{Leaf}
-use Rattle.expr_hc4.specs.declared.places.Leaf.TheVariants.{Sig, Var}
+use Rattle.tube_names.specs.declared.leaves.Leaf.{Leaf}
+use Rattle.tube_names.specs.declared.leaves.Leaf.TheVariants.{Sig, Var}
 use Rattle.expr_values.specs.Expressions.{leaves, numbered}
 use Rattle.expr_values.specs.Values.{range_value}
 use Rattle.log_fields.specs.Steps.{◌>>=◌, found_or}

@@ -8,7 +8,7 @@ use Rattle.expr_tree.specs.Trees.{Relation}
 use Rattle.expr_tree.specs.Measures.{relation_names}
 use Rattle.expr_values.specs.Expressions.{leaves, numbered}
 use Rattle.expr_values.specs.Values.{range_value}
-use Rattle.expr_hc4.specs.declared.places.Leaf.{Leaf}
+use Rattle.tube_names.specs.declared.leaves.Leaf.{Leaf}
 use Rattle.formula_text.specs.Readings.{Deep, Text, TextCause, reading_of}
 use Rattle.log_fields.specs.Steps.{◌>>=◌, found_or}
 use Rattle.log_fields.specs.declared.fault.Cause.{Cause}

@@ -1,12 +1,11 @@
 //! The records of formulas.
 
 ghost use Rattle.std.specs.Prelude.{◌≡◌, ◌+◌, ◌++◌, ◌≤◌, true, Ok, ℕ, [], ◌∷◌, All, IfOk, OnOk, length, map};
-ghost use Rattle.std.specs.List.{list_all, list_any};
+ghost use Rattle.std.specs.List.{list_all};
 ghost use Rattle.csv.specs.Records.{fields_of};
 ghost use Rattle.expr_tree.specs.Measures.{names};
 ghost use Rattle.expr_tree.specs.Trees.{tree_of};
 ghost use Rattle.expr_text.specs.Spellable.{IsPrintable};
-ghost use Rattle.expr_hc4.specs.Places.{same_leaf};
 ghost use Rattle.expr_values.specs.Expressions.{leaves};
 ghost use Rattle.log_fields.specs.Steps.{Gives, unless};
 ghost use Rattle.mission_items.specs.Made.{has_head};
@@ -19,7 +18,6 @@ ghost use Rattle.mission_log.specs.Log.{each_step, single_step};
 
 use crate::meant::{Meant, range_of};
 use csv::ByteRecord;
-use expr_hc4::Leaf;
 use expr_text::ExprFault;
 use expr_tree::Term;
 use formula_text::laws::printing_law;
@@ -33,6 +31,7 @@ use log_spelling::{Part, bare_name, part_of};
 use mission_items::{Decl, Item, Leaves};
 use std::alloc::Global;
 use tube_io::NoMemory;
+use tube_names::{Leaf, first_uses};
 
 // The formula that a text is.
 fn formula_in(alloc: Global, text: &[u8]) -> Result<Formula, Stop>
@@ -191,34 +190,13 @@ fn have_values(formula: &Formula, ranges: &[Interval], left: usize) -> bool
 
 // ---- different names
 
-fn same_leaf(a: Leaf, b: Leaf) -> bool
-    ensures { result ≡ same_leaf a b }
-{
-    match (a, b) {
-        (Leaf::Sig(x), Leaf::Sig(y)) => x.0 == y.0,
-        (Leaf::Var(v), Leaf::Var(w)) => v.0 == w.0,
-        _ => false,
-    }
-}
-
-fn stands_in(names: &[Leaf], leaf: Leaf) -> bool
-    ensures { result ≡ list_any (same_leaf leaf) names.now }
-{
-    names.iter().any(|name| same_leaf(leaf, *name))
-}
-
 // How many different names there are, and 1 where there is none.
 fn names_used(alloc: Global, ls: &[Leaf]) -> Result<u32, NoMemory>
     requires { length ls.now ≤ 256 }
     ensures value { IfOk result (λ used. used ≡ names_used ls.now) }
     ensures few { IfOk result (λ used. used ≤ 256) }
 {
-    let mut names = Vec::new(alloc);
-    for leaf in ls {
-        if !stands_in(&names, *leaf) {
-            names.push(*leaf)?;
-        }
-    }
+    let names = first_uses(alloc, ls)?;
     Ok((names.len() as u32).max(1))
 }
 

@@ -8,12 +8,12 @@ ghost use Rattle.mission_items.specs.Valid.{norm_in};
 ghost use Rattle.mission_log.specs.Log.{revisit_step, settle_step};
 
 use csv::ByteRecord;
-use hull_tree::{Norm, Query};
 use log_draft::Draft;
 use log_fields::fields::ensure;
 use log_fields::texts::{revisit_fields, settle_fields};
 use log_fields::{Cause, Stop};
 use mission_items::Item;
+use tube_names::{Norm, Query};
 
 #[tactic(auto, unfolding(crate::specs::Log::revisit_step))]
 pub(crate) fn take_revisit(draft: &mut Draft, row: &ByteRecord) -> Result<(), Stop>

@@ -11,7 +11,7 @@ use Rattle.tube_spec.specs.Owner.{hull_box}
 use Rattle.tube_spec.proofs.Hulls.{hull_box-is}
 use Rattle.hull_tree.specs.Plane.{plane_of, is_possible}
 use Rattle.hull_tree.specs.Revisits.{IsRevisit}
-use Rattle.hull_tree.specs.declared.revisit.Query.{Query}
+use Rattle.tube_names.specs.declared.queries.Query.{Query}
 use Rattle.hull_tree.proofs.Nearness.{possible-revisit}
 use Rattle.tplane_paver.specs.Runs.{InRuns}
 use Rattle.loop_degree.specs.Degree.{IsRateOf}

@@ -10,7 +10,7 @@ use Rattle.tube_spec.specs.Span.{Span}
 use Rattle.tube_io.specs.Sends.{Sends}
 use Rattle.tube_io.specs.declared.whole.WriteFault.{WriteFault}
 use Rattle.tube_io.proofs.Sent.{sends_none, sends_then}
-use Rattle.hull_tree.specs.declared.revisit.Query.{Query}
+use Rattle.tube_names.specs.declared.queries.Query.{Query}
 use Rattle.loop_report.specs.Loops.{loops_text}
 use Rattle.loop_report.specs.declared.found.Found.{Found}
 use Rattle.mission_items.specs.declared.item.Item.{Item}
@@ -33,10 +33,10 @@ not-query x h = refl
 
 -- the queries of the records before a place, and of the one there
 module _ (items : List Item) (i : ℕ) (x : Item) (longer : take (i + 1) items ≡ take i items ++ x ∷ []) where
-  queries-more : queries (take (i + 1) items) ≡ queries (take i items) ++ query_of x
+  pub queries-more : queries (take (i + 1) items) ≡ queries (take i items) ++ query_of x
   queries-more = ap queries longer ∙ (flat_map-append query_of (take i items) (x ∷ []) ∙ ap (λ (l : List Query). queries (take i items) ++ l) (append-nil (query_of x)))
 
-  queries-split : queries items ≡ (queries (take i items) ++ query_of x) ++ queries (drop (i + 1) items)
+  pub queries-split : queries items ≡ (queries (take i items) ++ query_of x) ++ queries (drop (i + 1) items)
   queries-split =
       ap queries (sym (take-append-drop (i + 1) items))
       ∙ (flat_map-append query_of (take (i + 1) items) (drop (i + 1) items) ∙ ap (λ (l : List Query). l ++ queries (drop (i + 1) items)) queries-more)

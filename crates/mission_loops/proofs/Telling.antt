@@ -7,7 +7,7 @@ use Rattle.tube_spec.specs.Span.{Span}
 use Rattle.tube_spec.specs.Shape.{Shape}
 use Rattle.tube_store.specs.declared.SignalId.{SignalId}
 use Rattle.hull_tree.specs.Plane.{Plane, plane_of, is_possible}
-use Rattle.hull_tree.specs.declared.revisit.Query.{Query}
+use Rattle.tube_names.specs.declared.queries.Query.{Query}
 use Rattle.tplane_paver.specs.declared.runs.Run.{Run}
 use Rattle.tplane_paver.specs.Runs.{InRun, InRuns, AreMaximalRuns}
 use Rattle.tplane_paver.specs.Components.{set_at, AreComponents}

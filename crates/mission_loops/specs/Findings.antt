@@ -1,12 +1,13 @@
 -- What is told of a query over the box of a section.
-use Rattle.std.specs.Prelude.{◌≡◌, ℕ, ◌<◌, List, [], ◌∷◌, Option, Some, None, IfSome, All, length, map}
+use Rattle.std.specs.Prelude.{◌≡◌, ℕ, ◌<◌, ◌≤◌, List, [], ◌∷◌, Option, Some, None, IfSome, All, length, map}
+use Rattle.tube_spec.specs.Limits.{most_runs}
 use Rattle.tube_spec.specs.Span.{Span}
 use Rattle.tube_spec.specs.Grid.{last_tick}
 use Rattle.tube_spec.specs.Shape.{Shape}
 use Rattle.tube_spec.specs.Assignment.{Assignment, value_at}
 use Rattle.hull_tree.specs.Plane.{Plane, plane_of, is_possible}
 use Rattle.hull_tree.specs.Revisits.{IsRevisit}
-use Rattle.hull_tree.specs.declared.revisit.Query.{Query}
+use Rattle.tube_names.specs.declared.queries.Query.{Query}
 use Rattle.tplane_paver.specs.declared.runs.Run.{Run}
 use Rattle.tplane_paver.specs.Runs.{InRuns, AreMaximalRuns}
 use Rattle.tplane_paver.specs.Rows.{runs_count}
@@ -14,6 +15,7 @@ use Rattle.tplane_paver.specs.Components.{AreComponents, set_at}
 use Rattle.loop_sets.specs.Sets.{HasRevisitIn}
 use Rattle.loop_sets.specs.Finding.{IsFinding}
 use Rattle.loop_sets.specs.declared.finding.Finding.TheVariants.{Unproved}
+use Rattle.loop_report.specs.Loops.{least_by, greatest_by}
 use Rattle.loop_report.specs.declared.found.Found.{Found}
 use Rattle.mission_items.specs.declared.item.Item.{Item}
 use Rattle.mission_net.specs.Records.{shape_by, SatisfiesAll}
@@ -23,7 +25,7 @@ use Rattle.mission_loops.specs.Queries.{rates_of}
 
 -- the possible pairs of a plane form more than 2,000,000 maximal runs
 abbrev pub IsCrowded : Plane → Type 0
-IsCrowded p = 2000000 < runs_count (is_possible p) (length p.xs)
+IsCrowded p = most_runs < runs_count (is_possible p) (length p.xs)
 
 -- what paving a plane gives: the maximal runs of its possible pairs, or none where it is crowded
 abbrev pub ArePaved : Plane → Option (List Run) → Type 0
@@ -59,6 +61,19 @@ abbrev pub HoldRevisits : List ℕ → List Item → Query → List Found → Ty
 HoldRevisits grid items q sets =
     (w : Assignment) → SatisfiesAll grid w items → (a b : ℕ) → IsRevisit q (last_tick grid) (value_at w q.x.0) (value_at w q.y.0) a b
     → (i : ℕ) × (i < length sets) × InRuns (set_at (sets_in sets) i) a b
+
+-- a pair lies in the two spans that are printed of a set, also in brief
+pub record IsInSpans (set : List Run) (a b : ℕ) : Type 0 where
+  pub least_a : least_by (λ r. r.a) set ≤ a
+  pub greatest_a : a ≤ greatest_by (λ r. r.a) set
+  pub least_b : least_by (λ r. r.first) set ≤ b
+  pub greatest_b : b ≤ greatest_by (λ r. r.last) set
+
+-- each revisit of each assignment that satisfies the records is in the printed spans of one of the sets
+abbrev pub SpanRevisits : List ℕ → List Item → Query → List Found → Type 0
+SpanRevisits grid items q sets =
+    (w : Assignment) → SatisfiesAll grid w items → (a b : ℕ) → IsRevisit q (last_tick grid) (value_at w q.x.0) (value_at w q.y.0) a b
+    → (i : ℕ) × (i < length sets) × IsInSpans (set_at (sets_in sets) i) a b
 
 -- where something is found of a set, each assignment that satisfies the records has a revisit in it
 abbrev pub IsProved : List ℕ → List Item → Query → Found → Type 0

@@ -1,13 +1,15 @@
 //! The sets of one query.
 
-ghost use Rattle.std.specs.Prelude.{◌≡◌, ◌<◌, ◌≤◌, ◌≤ℤ◌, ℕ, pos, All, IsSome, IfSome, IfOk, length, map, take};
+ghost use Rattle.std.specs.Prelude.{◌≡◌, ◌<◌, ◌≤◌, ◌≤ℤ◌, ◌∷◌, [], ℕ, pos, All, IsSome, IfSome, IfOk, length, map, take};
 ghost use Rattle.std.specs.List.{Contains};
 ghost use Rattle.hull_tree.specs.Plane.{plane_of};
 ghost use Rattle.loop_sets.specs.Sets.{IsComponent};
 ghost use Rattle.mission_items.specs.Valid.{IsMission};
 ghost use Rattle.mission_net.specs.Records.{shape_by, Encloses};
 ghost use Rattle.mission_loops.specs.Queries.{queries, rates_of};
+ghost use Rattle.mission_loops.specs.Cost.{TakesAtMost};
 ghost use Rattle.mission_loops.specs.Findings.{sets_in, ArePaved, AreFound, IsToldOver, IsTold};
+ghost use Rattle.tube_spec.specs.Limits.{greatest_radius};
 
 use crate::records::{first_items, rates_of};
 use crate::sets::FoundSets;
@@ -33,8 +35,9 @@ fn paved<L: Ledger>(
     requires x { q.now.x.0 < length store.now.shape.signals }
     requires y { q.now.y.0 < length store.now.shape.signals }
     requires radius { pos 0 ≤ℤ q.now.radius }
-    requires small { q.now.radius ≤ℤ pos 2000000000 }
-    ensures { IfOk result (λ paved. IfSome store.now.box (λ xs. ArePaved (plane_of store.now.shape xs q.now) paved)) }
+    requires small { q.now.radius ≤ℤ pos greatest_radius }
+    ensures paved { IfOk result (λ paved. IfSome store.now.box (λ xs. ArePaved (plane_of store.now.shape xs q.now) paved)) }
+    ensures steps { TakesAtMost store.now.shape store.now.box (q.now ∷ []) steps.old steps.new }
 {
     let tree = HullTree::new(alloc, store, q)?;
     match pave(alloc, &tree, steps) {
@@ -57,7 +60,7 @@ fn proved(
     requires x { q.now.x.0 < length store.now.shape.signals }
     requires y { q.now.y.0 < length store.now.shape.signals }
     requires radius { pos 0 ≤ℤ q.now.radius }
-    requires small { q.now.radius ≤ℤ pos 2000000000 }
+    requires small { q.now.radius ≤ℤ pos greatest_radius }
     requires rates_x { All (λ r. r.0 < length store.now.shape.signals) rates_x.now }
     requires rates_y { All (λ r. r.0 < length store.now.shape.signals) rates_y.now }
     requires components { IfSome store.now.box (λ xs. All (IsComponent (plane_of store.now.shape xs q.now)) sets.items) }
@@ -84,9 +87,10 @@ fn sets_over<L: Ledger>(
     requires x { q.now.x.0 < length store.now.shape.signals }
     requires y { q.now.y.0 < length store.now.shape.signals }
     requires radius { pos 0 ≤ℤ q.now.radius }
-    requires small { q.now.radius ≤ℤ pos 2000000000 }
+    requires small { q.now.radius ≤ℤ pos greatest_radius }
     requires rates { (x : ℕ) → All (λ rate. rate < length store.now.shape.signals) (rates_of items.now x) }
-    ensures { IfOk result (λ told. IsToldOver items.now store.now.shape store.now.box q.now told) }
+    ensures told { IfOk result (λ told. IsToldOver items.now store.now.shape store.now.box q.now told) }
+    ensures steps { TakesAtMost store.now.shape store.now.box (q.now ∷ []) steps.old steps.new }
 {
     let Some(runs) = paved(alloc, q, store, steps)? else {
         return Ok(None);
@@ -102,7 +106,7 @@ fn sets_over<L: Ledger>(
 /// found of each, or none where its possible pairs form more than 2,000,000 maximal runs. Over the empty box it has no set.
 ///
 /// Each revisit of each trajectory that is consistent with these records is in one of the sets, and where something is found of a set,
-/// each such trajectory has a revisit in it.
+/// each such trajectory has a revisit in it. It takes at most one step, and four for each square that the paver judges Mixed.
 pub fn find_loops<L: Ledger>(
     alloc: Global,
     mission: &Mission,
@@ -116,7 +120,8 @@ pub fn find_loops<L: Ledger>(
     requires asked { Contains (queries (take upto mission.now.items)) q.now }
     requires shape { store.now.shape ≡ shape_by mission.now.cuts (take upto mission.now.items) }
     requires encloses { Encloses mission.now.cuts (take upto mission.now.items) store.now.box }
-    ensures { IfOk result (λ told. IsTold mission.now.cuts (take upto mission.now.items) store.now.box q.now told) }
+    ensures told { IfOk result (λ told. IsTold mission.now.cuts (take upto mission.now.items) store.now.box q.now told) }
+    ensures steps { TakesAtMost store.now.shape store.now.box (q.now ∷ []) steps.old steps.new }
 {
     if store.is_empty() {
         return Ok(Some(FoundSets::new(Vec::new(alloc))));

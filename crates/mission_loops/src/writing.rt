@@ -5,6 +5,8 @@ ghost use Rattle.tube_io.specs.Sends.{Sends};
 ghost use Rattle.loop_report.specs.Loops.{loops_text};
 ghost use Rattle.mission_items.specs.Valid.{IsMission};
 ghost use Rattle.mission_net.specs.Records.{shape_by, Encloses};
+ghost use Rattle.mission_loops.specs.Cost.{TakesAtMost};
+ghost use Rattle.mission_loops.specs.Queries.{queries};
 ghost use Rattle.mission_loops.specs.Writing.{AreWritten, AreCutShort};
 
 use crate::finding::find_loops;
@@ -46,7 +48,7 @@ fn write_told<K: Sink>(
 /// sets with what is found of each, or that it is crowded. With `brief` no run of a set is written.
 ///
 /// It stops at the first write that fails, and a prefix of the text was taken then. After want of memory the queries before were written
-/// whole. Nothing is flushed.
+/// whole. Nothing is flushed. It takes at most one step for each query, and four for each square that the paver judges Mixed.
 pub fn write_findings<K: Sink, L: Ledger>(
     alloc: Global,
     mission: &Mission,
@@ -62,6 +64,7 @@ pub fn write_findings<K: Sink, L: Ledger>(
     requires encloses { Encloses mission.now.cuts (take upto mission.now.items) store.now.box }
     ensures written { IfOk result (λ findings. AreWritten K.written K.flushed K.faults mission.now.cuts (take upto mission.now.items) store.now.box brief sink.old sink.new findings) }
     ensures cut_short { OnErr result (AreCutShort K.written K.flushed K.faults mission.now.cuts (take upto mission.now.items) store.now.box brief sink.old sink.new) }
+    ensures steps { TakesAtMost store.now.shape store.now.box (queries (take upto mission.now.items)) steps.old steps.new }
 {
     let items = first_items(mission, upto);
     let mut last = None;

@@ -14,9 +14,9 @@ use Rattle.tube_spec.proofs.Hulls.{with_owners-append, owners-extend}
 use Rattle.tube_store.specs.State.{state_with}
 use Rattle.ctc_network.specs.Nets.{NetState}
 use Rattle.ctc_deriv.specs.Bounds.{each_below}
-use Rattle.mission_net.specs.Constraints.{Constraint, reads_of, reads_in, IsOf}
-use Rattle.mission_net.specs.declared.AnyCtc.{AnyCtc}
-use Rattle.mission_net.specs.Contractors.{constraint_of}
+use Rattle.any_ctc.specs.Constraints.{Constraint, reads_of, reads_in, IsOf}
+use Rattle.any_ctc.specs.declared.AnyCtc.{AnyCtc}
+use Rattle.any_ctc.specs.Contractors.{constraint_of}
 use Rattle.mission_net.specs.Building.{CanAdd, IsAdded}
 
 -- ---- boxes with further cells

@@ -19,11 +19,11 @@ use Rattle.mission_items.specs.Valid.{AreRight, IsMission, IsRange, IsRight}
 use Rattle.mission_items.proofs.Making.{signals-append, signals-last, variables-append, variables-last}
 use Rattle.mission_items.proofs.Ranges.{beacons-right, made-ranges, signal-range, signals-right}
 use Rattle.mission_items.proofs.Standing.{named-below}
-use Rattle.mission_net.specs.Constraints.{Constraint, reads_of, reads_in, IsOf}
+use Rattle.any_ctc.specs.Constraints.{Constraint, reads_of, reads_in, IsOf}
 use Rattle.mission_net.specs.Records.{made, owners, owners_from, shape_by, start, constraints_of, constraints_from, constraints, SatisfiesFrom, SatisfiesAll}
 use Rattle.mission_net.specs.Tables.{IsTableOf, IsTaken, Table}
-use Rattle.mission_net.specs.declared.AnyCtc.{AnyCtc}
-use Rattle.mission_net.specs.Contractors.{constraint_of}
+use Rattle.any_ctc.specs.declared.AnyCtc.{AnyCtc}
+use Rattle.any_ctc.specs.Contractors.{constraint_of}
 use Rattle.mission_net.specs.Building.{CanBuild, HasBeacon, IsAdded, IsBindable, IsNetOf, IsTimed}
 use Rattle.mission_net.proofs.Shapes.{owners-append, shape-snoc, shape-grid, shape-extends}
 use Rattle.mission_net.proofs.Counts.{cells-count, signals-count, variables-count, signals-made, variables-made}

@@ -6,7 +6,7 @@ use Rattle.std.proofs.Math.ListN.{get_or-append}
 use Rattle.tube_spec.specs.Span.{Span, point}
 use Rattle.tube_store.specs.declared.SignalId.{SignalId}
 use Rattle.tube_store.specs.declared.VarId.{VarId}
-use Rattle.point_cells.specs.Points.{numbers}
+use Rattle.tube_names.specs.Points.{numbers}
 use Rattle.ctc_network.specs.Nets.{NetState}
 use Rattle.mission_items.specs.declared.item.Item.{Item}
 use Rattle.mission_items.specs.declared.item.Item.TheVariants as item
@@ -14,11 +14,11 @@ use Rattle.mission_items.specs.Made.{mark_made, ranges_made, rate_in, signal_ran
 use Rattle.mission_items.specs.Valid.{IsMark}
 use Rattle.mission_items.proofs.Making.{length-variable_ranges, rate_in-kept, variable_ranges-last}
 use Rattle.mission_items.proofs.Standing.{at-seam}
-use Rattle.mission_net.specs.Constraints.{Constraint, ConstellOf, DistOf, EvalOf}
+use Rattle.any_ctc.specs.Constraints.{Constraint, ConstellOf, DistOf, EvalOf}
 use Rattle.mission_net.specs.Records.{constraints_of, evaluation, mark_constraints, mark_of, marks_in, point_at, target_of}
 use Rattle.mission_net.specs.Tables.{evaluation_by, mark_by, range_at, rate_at, target_by, IsTableOf, Table}
 use Rattle.mission_net.specs.Building.{CanAdd, IsBeside}
-use Rattle.mission_net.specs.declared.AnyCtc.{AnyCtc}
+use Rattle.any_ctc.specs.declared.AnyCtc.{AnyCtc}
 use Rattle.mission_net.proofs.Beacons.{length-marks_in, marks_in-last}
 
 module _ (grid : List ℕ) (before : List Item) (t : Table) where

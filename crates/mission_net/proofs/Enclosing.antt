@@ -16,7 +16,7 @@ use Rattle.tube_spec.proofs.Ticks.{last-greatest}
 use Rattle.ctc_deriv.specs.BoundLaws.{All-each_below}
 use Rattle.ctc_eval.specs.Evals.{IsEvaluation}
 use Rattle.ctc_delay.specs.Delays.{IsDelay}
-use Rattle.point_cells.specs.Points.{numbers}
+use Rattle.tube_names.specs.Points.{numbers}
 use Rattle.expr_values.specs.Expressions.{comparison_of}
 use Rattle.expr_hc4.specs.Projections.{HoldsAtTick}
 use Rattle.expr_hc4.specs.declared.places.Place.TheVariants.{Once}
@@ -26,9 +26,9 @@ use Rattle.mission_items.specs.Made.{rate_in, signals_in, ticks_from, variable_r
 use Rattle.mission_items.specs.Valid.{IsRight, AreRightFrom, AreRight}
 use Rattle.mission_items.proofs.Making.{signals-last, variables-append, variables-last}
 use Rattle.mission_items.proofs.Standing.{named-below}
-use Rattle.mission_net.specs.Constraints.{Constraint, SliceOf, DerivOf, BoundOf, DelayToOf, DelayFromOf, DelayShiftOf, DistOf, ConstellOf, ExprOf, constraint_projections, IsOf, Satisfies}
+use Rattle.any_ctc.specs.Constraints.{Constraint, SliceOf, DerivOf, BoundOf, DelayToOf, DelayFromOf, DelayShiftOf, DistOf, ConstellOf, ExprOf, constraint_projections, IsOf, Satisfies}
 use Rattle.mission_net.specs.Records.{owners, shape_by, start, evaluation, marks_in, mark_constraints, ping_constraints, point_at, target_of, constraints_of, constraints_from, constraints, projections, IsSection, IsEnclosure, Encloses, IsAtMark, IsDelayed, IsValueAt, Says, SatisfiesFrom, SatisfiesAll}
-use Rattle.mission_net.proofs.Stable.{constraint-stable, IsWritten}
+use Rattle.any_ctc.proofs.Stable.{constraint-stable, IsWritten}
 use Rattle.mission_net.proofs.Shapes.{shape-extends, shape-grid}
 use Rattle.mission_net.proofs.Counts.{more-signals, more-variables}
 use Rattle.mission_net.proofs.Reading.{right-more}

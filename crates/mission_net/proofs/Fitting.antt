@@ -13,15 +13,15 @@ use Rattle.ctc_deriv.specs.Bounds.{each_below}
 use Rattle.ctc_deriv.specs.BoundLaws.{All-each_below}
 use Rattle.ctc_eval.specs.Evals.{EvalFits}
 use Rattle.ctc_delay.specs.Delays.{DelayFits}
-use Rattle.point_cells.specs.Points.{numbers}
+use Rattle.tube_names.specs.Points.{numbers}
 use Rattle.ctc_dist.specs.Distances.{DistFits}
 use Rattle.ctc_constell.specs.Constellations.{ConstellFits}
 use Rattle.expr_tree.specs.Trees.{Tree, Number, Named, Apply, Join, Relation}
 use Rattle.expr_tree.specs.Measures.{names, relation_names}
 use Rattle.expr_values.specs.Expressions.{Comparison, comparison_of, leaves, relation_leaves}
 use Rattle.expr_hc4.specs.Places.{LeafFits, ExprFits}
-use Rattle.expr_hc4.specs.declared.places.Leaf.{Leaf}
-use Rattle.expr_hc4.specs.declared.places.Leaf.TheVariants.{Sig, Var}
+use Rattle.tube_names.specs.declared.leaves.Leaf.{Leaf}
+use Rattle.tube_names.specs.declared.leaves.Leaf.TheVariants.{Sig, Var}
 use Rattle.expr_hc4.specs.declared.places.Place.TheVariants.{Gate, Envelope, Once}
 use Rattle.mission_items.specs.declared.item.Item.{Item}
 use Rattle.mission_items.specs.declared.item.Item.TheVariants as item
@@ -30,9 +30,9 @@ use Rattle.mission_items.specs.Names.{leaf_at, IsNamed}
 use Rattle.mission_items.specs.Valid.{is_variable, AreRadii, AreRight, AreRightFrom, AreVariables, IsFormula, IsMark, IsRight}
 use Rattle.mission_items.proofs.Making.{signals-append}
 use Rattle.mission_items.proofs.Standing.{leaves-found, named-below, IsLeafIn}
-use Rattle.mission_net.specs.Constraints.{Constraint, SliceOf, DerivOf, BoundOf, DelayToOf, DelayFromOf, DelayShiftOf, DistOf, ConstellOf, ExprOf, IsOf}
+use Rattle.any_ctc.specs.Constraints.{Constraint, SliceOf, DerivOf, BoundOf, DelayToOf, DelayFromOf, DelayShiftOf, DistOf, ConstellOf, ExprOf, IsOf}
 use Rattle.mission_net.specs.Records.{constraints_of, evaluation, formula_at, formula_constraints, mark_constraints, marks_in, ping_constraints, point_at, target_of}
-use Rattle.mission_net.proofs.Stable.{IsFormulaOf, IsWritten}
+use Rattle.any_ctc.proofs.Stable.{IsFormulaOf, IsWritten}
 use Rattle.mission_net.proofs.Beacons.{length-marks_in, mark-at, marks-below, point-below, IsPointBelow}
 
 pub All-one : {X : Type 0} (P : X → Type 0) (x : X) → P x → All P (x ∷ [])

@@ -1,4 +1,3 @@
-pub mod Stable
 pub mod Shapes
 pub mod Counts
 pub mod Beacons

@@ -13,26 +13,27 @@ use Rattle.tube_spec.specs.Shape.{Shape, IsShape, no_shape, with_signal, with_va
 use Rattle.tube_spec.specs.Owner.{Owner, SignalIn, VariableIn, declared_cells, start_of, with_owners}
 use Rattle.tube_spec.proofs.Prefixes.{IsShape-signal, IsShape-var}
 use Rattle.tube_spec.proofs.Hulls.{owners-extend}
-use Rattle.ctc_eval.specs.declared.near.Near.{Near}
+use Rattle.slice_gates.specs.declared.near.Near.{Near}
 use Rattle.expr_values.specs.Expressions.{Comparison, comparison_of}
-use Rattle.expr_hc4.specs.declared.places.Leaf.{Leaf}
+use Rattle.tube_names.specs.declared.leaves.Leaf.{Leaf}
 use Rattle.expr_hc4.specs.declared.places.Place.TheVariants.{Gate, Once}
-use Rattle.expr_hc4.specs.Places.{first_uses, leaf_cell}
+use Rattle.expr_hc4.specs.Places.{leaf_cell}
+use Rattle.tube_names.specs.Leaves.{first_uses}
 use Rattle.mission_items.specs.declared.item.Item.{Item}
 use Rattle.mission_items.specs.declared.item.Item.TheVariants as item
 use Rattle.mission_items.specs.Made.{beacons_in, rate_in, signals_in, ticks_from, variable_range, variables_in}
 use Rattle.mission_items.specs.Room.{evaluated, evaluation_foot, feet_from, mark_foot, foot_of, slices_near, touching}
 use Rattle.mission_items.specs.Valid.{IsInPlace, IsMark, IsRight, AreRight, AreRightFrom}
 use Rattle.ctc_deriv.specs.Bounds.{each_below}
-use Rattle.ctc_eval.specs.Near.{near_of, places_of}
+use Rattle.slice_gates.specs.Near.{near_of, places_of}
 use Rattle.ctc_eval.specs.Evals.{cells_near, rate_scope}
 use Rattle.ctc_delay.specs.Places.{place_count, signal_cells}
 use Rattle.ctc_delay.specs.DelayLaws.{length-each_place}
-use Rattle.point_cells.specs.Points.{numbers, cells_of as point_cells}
+use Rattle.tube_names.specs.Points.{numbers, cells_of as point_cells}
 use Rattle.tube_store.specs.declared.VarId.{VarId}
-use Rattle.mission_net.specs.Constraints.{Constraint, SliceOf, DerivOf, BoundOf, EvalOf, DelayToOf, DelayFromOf, DelayShiftOf, DistOf, ConstellOf, ExprOf, constraint_scope, reads_near, rate_reads, reads_of, reads_in}
-use Rattle.mission_net.specs.declared.AnyCtc.{AnyCtc}
-use Rattle.mission_net.specs.Contractors.{constraint_of, any_scope}
+use Rattle.any_ctc.specs.Constraints.{Constraint, SliceOf, DerivOf, BoundOf, EvalOf, DelayToOf, DelayFromOf, DelayShiftOf, DistOf, ConstellOf, ExprOf, constraint_scope, reads_near, rate_reads, reads_of, reads_in}
+use Rattle.any_ctc.specs.declared.AnyCtc.{AnyCtc}
+use Rattle.any_ctc.specs.Contractors.{constraint_of, any_scope}
 use Rattle.ctc_network.specs.Nets.{entries_of}
 use Rattle.mission_net.specs.Records.{owners, owners_from, shape_by, start, marks_in, point_at, formula_at, formula_constraints, ping_constraints, constraints_of, constraints_from, constraints}
 use Rattle.mission_net.proofs.Shapes.{owners-append}

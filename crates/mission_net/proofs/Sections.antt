@@ -2,7 +2,6 @@
 use Rattle.std.proofs.Common.{◌≡◌, ℕ, zero, suc, ◌≤◌, Option, Some, None, List, [], ◌∷◌, ◌++◌, arith, refl, sym, ap, ap₂, subst, ◌∙◌, map, flat_map, take, drop, IsSome, IsNone, IsSomeAnd, IfSome, slice_get, sum_by, option_map, length, ◌+◌, ◌*◌, ◌<◌}
 use Rattle.std.proofs.lemmas.List.Folds.{flat_map-map}
 use Rattle.std.proofs.lemmas.List.Elements.{All-nil}
-use Rattle.std.proofs.lemmas.List.Sums.{sum_by-cons}
 use Rattle.std.proofs.lemmas.List.{take-append-drop}
 use Rattle.tube_spec.specs.Span.{Span, IsBounded, width_of}
 use Rattle.tube_spec.specs.Grid.{IsGrid, last_tick}
@@ -11,7 +10,7 @@ use Rattle.tube_spec.specs.Box.{IsBox, AreBounded, IsBelowBox, box_more, measure
 use Rattle.tube_spec.specs.Projection.{Projection}
 use Rattle.tube_spec.specs.Fixpoint.{IsFixpoint, IsGreatest, KeepsFixpoints}
 use Rattle.tube_spec.specs.Owner.{start_of}
-use Rattle.tube_spec.proofs.Widths.{width-le}
+use Rattle.tube_spec.proofs.Widths.{widths-small}
 use Rattle.tube_spec.proofs.Boxes.{IsBelow-refl, IsBelowBox-trans}
 use Rattle.tube_spec.proofs.Prefixes.{Extends-refl}
 use Rattle.tube_store.specs.State.{State, IsStore}
@@ -24,11 +23,11 @@ use Rattle.mission_items.specs.declared.item.Item.{Item}
 use Rattle.mission_items.specs.declared.mission.Mission.{Mission}
 use Rattle.mission_items.specs.Valid.{AreRight, IsMission}
 use Rattle.mission_items.proofs.Making.{variables-append}
-use Rattle.mission_net.specs.Constraints.{Constraint, constraint_projections, constraint_scope, IsOf}
-use Rattle.mission_net.specs.ConstraintLaws.{constraint-reads_only, constraint-in_store, constraint-more, constraint-same_projections}
+use Rattle.any_ctc.specs.Constraints.{Constraint, constraint_projections, constraint_scope, IsOf}
+use Rattle.any_ctc.specs.ConstraintLaws.{constraint-reads_only, constraint-in_store, constraint-more, constraint-same_projections}
 use Rattle.mission_net.specs.Records.{owners_from, shape_by, start, constraints_from, constraints, projections, IsSection, IsEnclosure, Encloses}
-use Rattle.mission_net.specs.declared.AnyCtc.{AnyCtc}
-use Rattle.mission_net.specs.Contractors.{constraint_of, any_projections}
+use Rattle.any_ctc.specs.declared.AnyCtc.{AnyCtc}
+use Rattle.any_ctc.specs.Contractors.{constraint_of, any_projections}
 use Rattle.mission_net.specs.Building.{IsNetOf, IsAdded, IsSectionAs, IsSpentAs}
 use Rattle.mission_net.proofs.Shapes.{shape-extends, shape-grid}
 use Rattle.mission_net.proofs.Enclosing.{records-of, section-encloses, enclosure-encloses, AreSound}
@@ -213,13 +212,6 @@ pub section-after-empty : (grid : List ℕ) (before more : List Item) → IsShap
 section-after-empty grid before more none few version is sound e1 = records-section grid before more none few version is sound None None e1 (λ q fix below. below)
 
 -- ---- how large a measure can be
-
-width-small : (s : Span) → IsBounded 500000000 s → width_of s ≤ 1000000000
-width-small s h = width-le s _ h
-
-widths-small : (xs : List Span) → AreBounded xs → sum_by width_of xs ≤ 1000000000 * length xs
-widths-small [] h = omega arith
-widths-small (x ∷ xs) h = omega (arith, sum_by-cons width_of x xs, width-small x (h 0), widths-small xs (λ k. h (suc k)))
 
 box-small : (box : Option (List Span)) (cells : ℕ) → cells ≤ 2000000 → IfSome box (λ xs. IsBox xs × (length xs ≡ cells)) → IfSome box AreBounded → measure_of box ≤ 2000000000000000
 box-small None cells few is bounded = omega arith

@@ -8,11 +8,11 @@ use Rattle.ctc_network.specs.Nets.{NetState}
 use Rattle.mission_items.specs.declared.item.Item.{Item}
 use Rattle.mission_items.specs.Made.{ranges_made, signal_made, signal_ranges, signals_in, variable_ranges, variables_in}
 use Rattle.mission_items.proofs.Making.{length-signal_ranges, length-variable_ranges, signal_ranges-last, signals-last, variable_ranges-last, variables-last}
-use Rattle.mission_net.specs.Constraints.{Constraint, reads_in, IsOf}
+use Rattle.any_ctc.specs.Constraints.{Constraint, reads_in, IsOf}
 use Rattle.mission_net.specs.Records.{constraints_of, made}
 use Rattle.mission_net.specs.Tables.{IsTableOf, Table}
 use Rattle.mission_net.specs.Building.{CanAdd, CanBuild, IsAdded, IsBeside}
-use Rattle.mission_net.specs.declared.AnyCtc.{AnyCtc}
+use Rattle.any_ctc.specs.declared.AnyCtc.{AnyCtc}
 use Rattle.mission_net.proofs.Counts.{signals-made, variables-made}
 use Rattle.mission_net.proofs.Additions.{added-grid, none-few, none-reads}
 

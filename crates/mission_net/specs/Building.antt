@@ -1,5 +1,6 @@
 -- What a net holds of the records that were built, and what settling makes of it.
 use Rattle.std.specs.Prelude.{◌≡◌, ◌<◌, ℕ, List, ◌++◌, Option, Some, true, map, replicate, length, IsSome, IsNone, IsSomeAnd, All, ◌+◌, ◌≤◌, slice_get}
+use Rattle.tube_spec.specs.Limits.{greatest_bound, most_cells, most_reads, most_signals, most_variables}
 use Rattle.tube_spec.specs.Span.{Span, IsBounded}
 use Rattle.tube_spec.specs.Box.{IsBelowBox, box_more, measure_of}
 use Rattle.tube_spec.specs.Fixpoint.{IsFixpoint}
@@ -14,10 +15,10 @@ use Rattle.mission_items.specs.declared.item.Item.TheVariants as item
 use Rattle.mission_items.specs.Made.{ranges_made, signal_made, signals_in, signals_made, variables_in, variables_made}
 use Rattle.mission_items.specs.Valid.{IsMark}
 use Rattle.mission_net.specs.Tables.{IsTaken, Table}
-use Rattle.mission_net.specs.Constraints.{Constraint, constraint_projections, reads_in, IsOf}
+use Rattle.any_ctc.specs.Constraints.{Constraint, constraint_projections, reads_in, IsOf}
 use Rattle.mission_net.specs.Records.{constraints_of, made, shape_by, start, constraints, IsSection, IsEnclosure}
-use Rattle.mission_net.specs.declared.AnyCtc.{AnyCtc}
-use Rattle.mission_net.specs.Contractors.{constraint_of}
+use Rattle.any_ctc.specs.declared.AnyCtc.{AnyCtc}
+use Rattle.any_ctc.specs.Contractors.{constraint_of}
 
 -- A net has exactly the cells and the contractors of the records, and its box lies below their declared ranges.
 pub record IsNetOf (grid : List ℕ) (items : List Item) (net : NetState AnyCtc) : Type 0 where
@@ -36,11 +37,11 @@ pub record IsAdded (os : List Owner) (cs : List Constraint) (old new : NetState 
 pub record CanAdd (cs : List Constraint) (net : NetState AnyCtc) : Type 0 where
   pub of : All (IsOf net.store.shape) cs
   pub few : length net.contractors + length cs ≤ 4000000000
-  pub reads : reads_in net.store.shape.grid (map constraint_of net.contractors) + reads_in net.store.shape.grid cs ≤ 20000000
+  pub reads : reads_in net.store.shape.grid (map constraint_of net.contractors) + reads_in net.store.shape.grid cs ≤ most_reads
 
--- a table beside a net: it has the ranges of the same variables, and there are at most 64 signals
+-- a table beside a net: it has the ranges of the same variables, and there are no more signals than there may be
 pub record IsBeside (t : Table) (net : NetState AnyCtc) : Type 0 where
-  pub signals : length net.store.shape.signals ≤ 64
+  pub signals : length net.store.shape.signals ≤ most_signals
   pub variables : length t.variables ≡ length net.store.shape.vars
 
 -- a formula that can be bound: it is small, and has a leaf for each of its names
@@ -61,20 +62,20 @@ IsTimed before r = Unit {0}
 
 -- A net takes the next record: there is room for its cells, whose ranges are within the bound, and for its contractors, which are of the shape with these cells.
 pub record CanBuild (before : List Item) (r : Item) (net : NetState AnyCtc) : Type 0 where
-  pub signals : All (IsBounded 500000000) (signal_made r)
-  pub variables : All (IsBounded 500000000) (ranges_made before r)
-  pub cells : (with_owners net.store.shape (made before r)).cells ≤ 2000000
+  pub signals : All (IsBounded greatest_bound) (signal_made r)
+  pub variables : All (IsBounded greatest_bound) (ranges_made before r)
+  pub cells : (with_owners net.store.shape (made before r)).cells ≤ most_cells
   pub of : All (IsOf (with_owners net.store.shape (made before r))) (constraints_of net.store.shape.grid before r)
   pub few : length net.contractors + length (constraints_of net.store.shape.grid before r) ≤ 4000000000
-  pub reads : reads_in net.store.shape.grid (map constraint_of net.contractors) + reads_in net.store.shape.grid (constraints_of net.store.shape.grid before r) ≤ 20000000
+  pub reads : reads_in net.store.shape.grid (map constraint_of net.contractors) + reads_in net.store.shape.grid (constraints_of net.store.shape.grid before r) ≤ most_reads
   pub taken : IsTaken before r
   pub bindable : IsBindable r
   pub beacon : HasBeacon before r
   pub timed : IsTimed before r
   pub signals_so_far : length net.store.shape.signals ≡ signals_in before
   pub variables_so_far : length net.store.shape.vars ≡ variables_in before
-  pub few_signals : signals_in before + signals_made r ≤ 64
-  pub few_variables : variables_in before + variables_made r ≤ 200000
+  pub few_signals : signals_in before + signals_made r ≤ most_signals
+  pub few_variables : variables_in before + variables_made r ≤ most_variables
 
 -- What the answer of settling says of the box: it is that of the section, or it was spent and lost no common fixpoint.
 abbrev pub IsSectionAs : List ℕ → List Item → Option (List Span) → Settled → Type 0

@@ -9,17 +9,17 @@ use Rattle.tube_spec.specs.Fixpoint.{IsGreatest, KeepsFixpoints}
 use Rattle.tube_spec.specs.Assignment.{Assignment, value_at, number_of}
 use Rattle.tube_spec.specs.Owner.{Owner, SignalIn, VariableIn, shape_of, start_of, hull_box}
 use Rattle.ctc_deriv.specs.Bounds.{each_below}
-use Rattle.point_cells.specs.Points.{numbers}
+use Rattle.tube_names.specs.Points.{numbers}
 use Rattle.ctc_dist.specs.Distances.{IsAtDistance}
 use Rattle.ctc_constell.specs.Constellations.{IsOneOf}
 use Rattle.expr_values.specs.Expressions.{Comparison, comparison_of}
 use Rattle.expr_hc4.specs.Projections.{HoldsAtTick}
-use Rattle.expr_hc4.specs.declared.places.Leaf.{Leaf}
+use Rattle.tube_names.specs.declared.leaves.Leaf.{Leaf}
 use Rattle.expr_hc4.specs.declared.places.Place.TheVariants.{Gate, Envelope, Once}
 use Rattle.mission_items.specs.declared.item.Item.{Item}
 use Rattle.mission_items.specs.declared.item.Item.TheVariants as item
 use Rattle.mission_items.specs.Made.{ranges_made, rate_in, signal_made, signals_in, ticks_from, variable_range, variables_in}
-use Rattle.mission_net.specs.Constraints.{Constraint, SliceOf, DerivOf, BoundOf, EvalOf, DelayToOf, DelayFromOf, DelayShiftOf, DistOf, ConstellOf, ExprOf, constraint_projections}
+use Rattle.any_ctc.specs.Constraints.{Constraint, SliceOf, DerivOf, BoundOf, EvalOf, DelayToOf, DelayFromOf, DelayShiftOf, DistOf, ConstellOf, ExprOf, constraint_projections}
 
 -- What a record makes, asks and says depends on the records before it alone.
 

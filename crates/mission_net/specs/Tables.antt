@@ -1,14 +1,15 @@
 -- The table of what the records so far make, as it is kept while records are built.
 use Rattle.std.specs.Prelude.{◌≡◌, ℕ, ◌<◌, ◌≤◌, List, [], ◌∷◌, Option, Some, None, length, map, slice_index_or, slice_set, pos}
+use Rattle.tube_spec.specs.Limits.{most_signals}
 use Rattle.tube_spec.specs.Span.{Span, point, join_of}
 use Rattle.mission_items.specs.declared.item.Item.{Item}
 use Rattle.mission_items.specs.declared.item.Item.TheVariants as item
 use Rattle.mission_items.specs.Made.{beacon_ranges, hull_of, rate_in, signal_ranges, signals_in, variable_ranges}
 use Rattle.mission_items.specs.Valid.{IsMark}
 use Rattle.mission_net.specs.Records.{marks_in, point_at}
-use Rattle.mission_net.specs.Constraints.{Constraint, ConstellOf, EvalOf}
+use Rattle.any_ctc.specs.Constraints.{Constraint, ConstellOf, EvalOf}
 
--- The declared ranges of signals and of variables, the rates of 64 signals, the variables of each beacon, and the hulls of the ranges
+-- The declared ranges of signals and of variables, the rates of as many signals as there may be, the variables of each beacon, and the hulls of the ranges
 -- of the beacons' coordinates, if there is a beacon.
 pub record Table : Type 0 where
   pub signals : List Span
@@ -26,8 +27,8 @@ hulls_of (b ∷ bs) = Some (hull_of (map (λ b. b.0) (b ∷ bs)), hull_of (map (
 pub record IsTableOf (t : Table) (before : List Item) : Type 0 where
   pub signals : t.signals ≡ signal_ranges before
   pub variables : t.variables ≡ variable_ranges before
-  pub many : length t.rates ≡ 64
-  pub rates : (x : ℕ) → x < 64 → slice_index_or t.rates x None ≡ rate_in before x
+  pub many : length t.rates ≡ most_signals
+  pub rates : (x : ℕ) → x < most_signals → slice_index_or t.rates x None ≡ rate_in before x
   pub marks : t.marks ≡ marks_in before
   pub hull : t.hull ≡ hulls_of (beacon_ranges before)
 
@@ -63,8 +64,8 @@ abbrev pub hull_with : Option (Span × Span) → Span → Span → Option (Span 
 hull_with None x y = Some (x, y)
 hull_with (Some h) x y = Some (join_of h.0 x, join_of h.1 y)
 
--- What a record takes from the table: a signal that has a rate is one of 64, and a ping has its signals, its ticks in order and its mark.
+-- What a record takes from the table: a signal that has a rate is one of these, and a ping has its signals, its ticks in order and its mark.
 abbrev pub IsTaken : List Item → Item → Type 0
-IsTaken before (item.Deriv x rate) = x.0 < 64
+IsTaken before (item.Deriv x rate) = x.0 < most_signals
 IsTaken before (item.Ping x y first last beacon near far) = (x.0 < signals_in before) × (y.0 < signals_in before) × (first ≤ last) × IsMark before beacon
 IsTaken before r = Unit {0}

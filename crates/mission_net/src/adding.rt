@@ -1,9 +1,10 @@
 //! Cells and contractors, one and several.
 
 ghost use Rattle.std.specs.Prelude.{◌≡◌, ◌+◌, ◌<◌, ◌≤◌, [], ◌∷◌, ◌++◌, OnOk, All, drop, length, map};
+ghost use Rattle.tube_spec.specs.Limits.{greatest_bound, most_cells};
 ghost use Rattle.tube_spec.specs.Span.{IsBounded};
 ghost use Rattle.tube_spec.specs.Owner.{SignalIn, VariableIn, with_owners};
-ghost use Rattle.mission_net.specs.Contractors.{constraint_of};
+ghost use Rattle.any_ctc.specs.Contractors.{constraint_of};
 ghost use Rattle.mission_net.specs.Building.{CanAdd, IsAdded};
 
 use crate::AnyCtc;
@@ -14,8 +15,8 @@ use tube_store::StoreFault;
 
 /// Adds the cells of a signal at its declared range.
 fn add_signal(net: &mut Net<AnyCtc>, range: Interval) -> Result<(), NoMemory>
-    requires range { IsBounded 500000000 range }
-    requires room { (with_owners net.old.store.shape (SignalIn range ∷ [])).cells ≤ 2000000 }
+    requires range { IsBounded greatest_bound range }
+    requires room { (with_owners net.old.store.shape (SignalIn range ∷ [])).cells ≤ most_cells }
     ensures added { OnOk result (IsAdded (SignalIn range ∷ []) [] net.old net.new) }
 {
     match net.add_signal(range) {
@@ -27,8 +28,8 @@ fn add_signal(net: &mut Net<AnyCtc>, range: Interval) -> Result<(), NoMemory>
 
 /// Adds the cell of a variable at its declared range.
 fn add_variable(net: &mut Net<AnyCtc>, range: Interval) -> Result<(), NoMemory>
-    requires range { IsBounded 500000000 range }
-    requires room { (with_owners net.old.store.shape (VariableIn range ∷ [])).cells ≤ 2000000 }
+    requires range { IsBounded greatest_bound range }
+    requires room { (with_owners net.old.store.shape (VariableIn range ∷ [])).cells ≤ most_cells }
     ensures added { OnOk result (IsAdded (VariableIn range ∷ []) [] net.old net.new) }
 {
     match net.add_var(range) {
@@ -40,8 +41,8 @@ fn add_variable(net: &mut Net<AnyCtc>, range: Interval) -> Result<(), NoMemory>
 
 /// Adds the cells of signals with these declared ranges.
 pub(crate) fn add_signals(net: &mut Net<AnyCtc>, ranges: &[Interval]) -> Result<(), NoMemory>
-    requires ranges { All (IsBounded 500000000) ranges.now }
-    requires room { (with_owners net.old.store.shape (map SignalIn ranges.now)).cells ≤ 2000000 }
+    requires ranges { All (IsBounded greatest_bound) ranges.now }
+    requires room { (with_owners net.old.store.shape (map SignalIn ranges.now)).cells ≤ most_cells }
     ensures added { OnOk result (IsAdded (map SignalIn ranges.now) [] net.old net.new) }
 {
     for range in ranges {
@@ -52,8 +53,8 @@ pub(crate) fn add_signals(net: &mut Net<AnyCtc>, ranges: &[Interval]) -> Result<
 
 /// Adds the cells of variables with these declared ranges.
 pub(crate) fn add_variables(net: &mut Net<AnyCtc>, ranges: &[Interval]) -> Result<(), NoMemory>
-    requires ranges { All (IsBounded 500000000) ranges.now }
-    requires room { (with_owners net.old.store.shape (map VariableIn ranges.now)).cells ≤ 2000000 }
+    requires ranges { All (IsBounded greatest_bound) ranges.now }
+    requires room { (with_owners net.old.store.shape (map VariableIn ranges.now)).cells ≤ most_cells }
     ensures added { OnOk result (IsAdded (map VariableIn ranges.now) [] net.old net.new) }
 {
     for range in ranges {

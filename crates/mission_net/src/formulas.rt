@@ -5,7 +5,7 @@ ghost use Rattle.expr_tree.specs.Measures.{relation_nodes};
 ghost use Rattle.expr_values.specs.Expressions.{comparison_of, relation_leaves};
 ghost use Rattle.expr_hc4.specs.Programs.{bound_comparison};
 ghost use Rattle.ctc_deriv.specs.Bounds.{each_below};
-ghost use Rattle.mission_net.specs.Constraints.{ExprOf};
+ghost use Rattle.any_ctc.specs.Constraints.{ExprOf};
 ghost use Rattle.mission_net.specs.Records.{formula_at, formula_constraints};
 ghost use Rattle.mission_net.specs.Building.{CanAdd, IsAdded};
 

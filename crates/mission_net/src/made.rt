@@ -1,9 +1,10 @@
 //! What the records so far make, for the records after them.
 
 ghost use Rattle.std.specs.Prelude.{◌≡◌, ℕ, ◌+◌, ◌<◌, ◌≤◌, [], ◌∷◌, ◌++◌, Some, None, IfOk, OnOk, IsSome, option_map, drop, length, map, slice_index_or, pos};
+ghost use Rattle.tube_spec.specs.Limits.{most_signals};
 ghost use Rattle.tube_spec.specs.Span.{point};
 ghost use Rattle.ctc_eval.specs.Held.{rate_of};
-ghost use Rattle.point_cells.specs.Points.{numbers};
+ghost use Rattle.tube_names.specs.Points.{numbers};
 ghost use Rattle.mission_items.specs.Made.{ticks_from};
 ghost use Rattle.mission_net.specs.Records.{point_at};
 ghost use Rattle.mission_net.specs.Tables.{IsTableOf, IsTaken, range_at, rate_at, rates_with, hull_with};
@@ -16,7 +17,7 @@ use tube_io::NoMemory;
 use tube_store::{SignalId, VarId};
 
 /// The most signals of a mission.
-const SIGNALS: usize = 64;
+const MOST_SIGNALS: usize = 64;
 
 /// A table of what the records so far make: the declared ranges of signals and variables, the rates, and the beacons. It is carried from
 /// section to section beside the net.
@@ -26,7 +27,7 @@ pub struct Made {
     signals: Vec<Interval>,
     variables: Vec<Interval>,
     // the rate of each signal that has one
-    rates: [Option<SignalId>; 64],
+    rates: [Option<SignalId>; MOST_SIGNALS],
     // the variables of the beacons
     beacons: Vec<[VarId; 2]>,
     // the hulls of the ranges of the beacons' coordinates
@@ -35,15 +36,16 @@ pub struct Made {
 
 impl Model for Made {
     ghost use Rattle.std.specs.Prelude.{◌≡◌, length, map};
+    ghost use Rattle.tube_spec.specs.Limits.{most_signals};
     ghost use Rattle.ctc_eval.specs.Held.{rate_of};
-    ghost use Rattle.point_cells.specs.Points.{numbers};
+    ghost use Rattle.tube_names.specs.Points.{numbers};
     ghost use Rattle.mission_net.specs.Tables.{Table};
 
     ghost Value = { Table };
 
     ghost view = { λ m. record { signals = m.signals.items; variables = m.variables.items; rates = map rate_of m.rates; marks = map numbers m.beacons.items; hull = m.hull } };
 
-    ghost invariant = { λ m. length m.rates ≡ 64 };
+    ghost invariant = { λ m. length m.rates ≡ most_signals };
 }
 
 impl Made {
@@ -105,7 +107,7 @@ impl Made {
 
     /// The rate of a signal, if it has one so far.
     pub(crate) fn rate(&self, x: SignalId) -> Option<SignalId>
-        requires { x.0 < 64 }
+        requires { x.0 < most_signals }
         ensures { rate_of result ≡ rate_at self.now x.0 }
     {
         self.rates[x.0 as usize]
@@ -197,7 +199,7 @@ impl Made {
 
     // The first rate of a signal counts.
     fn add_rate(&mut self, x: SignalId, rate: SignalId)
-        requires { x.0 < 64 }
+        requires { x.0 < most_signals }
         ensures { self.new ≡ record self.old { rates = rates_with self.old.rates x.0 rate.0 (rate_at self.old x.0) } }
     {
         match self.rate(x) {
@@ -235,11 +237,11 @@ impl Made {
 }
 
 /// No signal has a rate.
-fn no_rates() -> [Option<SignalId>; 64]
+fn no_rates() -> [Option<SignalId>; MOST_SIGNALS]
     ensures none { (x : ℕ) → slice_index_or (map rate_of result) x None ≡ None }
-    ensures many { length result ≡ 64 }
+    ensures many { length result ≡ most_signals }
 {
-    [None; SIGNALS]
+    [None; MOST_SIGNALS]
 }
 
 /// The range of a time from a tick to another.

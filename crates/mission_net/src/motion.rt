@@ -2,7 +2,7 @@
 
 ghost use Rattle.std.specs.Prelude.{◌≡◌, ◌+◌, ◌<◌, ◌≤◌, [], ◌∷◌, ◌++◌, OnOk, length};
 ghost use Rattle.ctc_deriv.specs.Bounds.{each_below};
-ghost use Rattle.mission_net.specs.Constraints.{SliceOf, DerivOf, DelayToOf, DelayFromOf, DelayShiftOf};
+ghost use Rattle.any_ctc.specs.Constraints.{SliceOf, DerivOf, DelayToOf, DelayFromOf, DelayShiftOf};
 ghost use Rattle.mission_net.specs.Tables.{evaluation_by};
 ghost use Rattle.mission_net.specs.Building.{CanAdd, IsAdded, IsBeside};
 

@@ -2,8 +2,8 @@
 
 ghost use Rattle.std.specs.Prelude.{◌≡◌, ◌+◌, ◌<◌, ◌≤◌, [], ◌∷◌, ◌++◌, OnOk, length};
 ghost use Rattle.std.specs.Option.{ForSome};
-ghost use Rattle.point_cells.specs.Points.{numbers};
-ghost use Rattle.mission_net.specs.Constraints.{DistOf, ConstellOf};
+ghost use Rattle.tube_names.specs.Points.{numbers};
+ghost use Rattle.any_ctc.specs.Constraints.{DistOf, ConstellOf};
 ghost use Rattle.mission_net.specs.Records.{point_at};
 ghost use Rattle.mission_net.specs.Tables.{evaluation_by, mark_by, target_by};
 ghost use Rattle.mission_net.specs.Building.{CanAdd, IsAdded, IsBeside};

@@ -1,6 +1,7 @@
 //! Records, one after another.
 
 ghost use Rattle.std.specs.Prelude.{◌≡◌, ◌+◌, ◌<◌, ◌≤◌, [], ◌∷◌, ◌++◌, OnOk, All, drop, length, map};
+ghost use Rattle.tube_spec.specs.Limits.{greatest_bound, most_cells, most_variables};
 ghost use Rattle.tube_spec.specs.Span.{IsBounded};
 ghost use Rattle.tube_spec.specs.Owner.{SignalIn, VariableIn, with_owners};
 ghost use Rattle.mission_items.specs.Made.{signals_in, variables_in};
@@ -33,7 +34,7 @@ fn add_contractors(
     requires beside { IsBeside table.now net.old }
     requires signals { signals ≡ signals_in before.now }
     requires variables { variables ≡ variables_in before.now }
-    requires few { variables ≤ 200000 }
+    requires few { variables ≤ most_variables }
     requires bindable { IsBindable item.now }
     requires beacon { HasBeacon before.now item.now }
     requires evaluated { IsTimed before.now item.now }
@@ -89,8 +90,8 @@ fn add_cells(
 ) -> Result<(), NoMemory>
     requires signals { signals ≤ length table.now.signals }
     requires variables { variables ≤ length table.now.variables }
-    requires ranges { All (IsBounded 500000000) (drop signals table.now.signals) × All (IsBounded 500000000) (drop variables table.now.variables) }
-    requires room { (with_owners net.old.store.shape (map SignalIn (drop signals table.now.signals) ++ map VariableIn (drop variables table.now.variables))).cells ≤ 2000000 }
+    requires ranges { All (IsBounded greatest_bound) (drop signals table.now.signals) × All (IsBounded greatest_bound) (drop variables table.now.variables) }
+    requires room { (with_owners net.old.store.shape (map SignalIn (drop signals table.now.signals) ++ map VariableIn (drop variables table.now.variables))).cells ≤ most_cells }
     ensures { OnOk result (IsAdded (map SignalIn (drop signals table.now.signals) ++ map VariableIn (drop variables table.now.variables)) [] net.old net.new) }
 {
     add_signals(net, table.signals_from(signals as usize))?;

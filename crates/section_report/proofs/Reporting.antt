@@ -14,7 +14,7 @@ use Rattle.mission_items.specs.declared.item.Item.{Item}
 use Rattle.mission_items.specs.declared.mission.Mission.{Mission}
 use Rattle.mission_net.specs.Records.{IsEnclosure}
 use Rattle.mission_net.specs.Building.{IsNetOf}
-use Rattle.mission_net.specs.declared.AnyCtc.{AnyCtc}
+use Rattle.any_ctc.specs.declared.AnyCtc.{AnyCtc}
 use Rattle.mission_net.proofs.Sections.{section-as-encloses, enclosure-none, net-none}
 use Rattle.section_report.specs.Sections.{is_settle, settles_from, section_ends, Section, section_of, IsSectionOf, GoesOn, GoOn, is_spent, AreUnspent, AreAll}
 use Rattle.section_report.specs.Texts.{text_of, report_text}

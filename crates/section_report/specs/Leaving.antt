@@ -1,13 +1,13 @@
 -- What settling and writing the sections of a mission leaves.
-use Rattle.std.specs.Prelude.{◌≡◌, ℕ, ◌+◌, ◌≤◌, List, [], ◌∷◌, ◌++◌, Option, Ok, OnOk, IsFalse, All, length, take}
+use Rattle.std.specs.Prelude.{◌≡◌, ℕ, ◌+◌, ◌≤◌, List, [], ◌∷◌, ◌++◌, Option, Ok, OnOk, IsFalse, All, length}
 use Rattle.tube_io.specs.Sends.{Sends}
 use Rattle.tube_io.specs.declared.whole.WriteFault.{WriteFault}
 use Rattle.ctc_network.specs.Nets.{NetState}
 use Rattle.ctc_network.specs.declared.answers.Settled.TheVariants as answer
 use Rattle.mission_items.specs.declared.mission.Mission.{Mission}
 use Rattle.mission_net.specs.Building.{IsNetOf}
-use Rattle.mission_net.specs.declared.AnyCtc.{AnyCtc}
-use Rattle.section_report.specs.Sections.{Section, section_of, AreSections, AreSectionsTo, AreUnspent, AreAll}
+use Rattle.any_ctc.specs.declared.AnyCtc.{AnyCtc}
+use Rattle.section_report.specs.Sections.{Section, items_of, section_of, AreSections, AreSectionsTo, AreUnspent, AreAll}
 use Rattle.section_report.specs.Texts.{report_text}
 use Rattle.section_report.specs.declared.part.LastSection.{LastSection}
 use Rattle.section_report.specs.declared.part.Choices.{Choices}
@@ -24,7 +24,7 @@ pub record IsReported {K : Type 0} (written : K → Option (List ℕ)) (flushed 
   pub all : OnOk section.written (AreAll m earlier last)
   pub numbered : section.number ≡ length earlier + 1
   pub text : Sends written flushed faults (report_text m chosen.brief (earlier ++ last ∷ [])) old new section.written
-  pub holds : IsNetOf m.cuts (take last.upto m.items) net
+  pub holds : IsNetOf m.cuts (items_of m last) net
   pub resting : section.end.answer ≡ answer.Fixpoint → All IsFalse net.waiting
 
 -- Memory ran out after some first sections, of which none was spent and all texts were written.

@@ -1,3 +1,4 @@
 pub mod Sections
 pub mod Texts
 pub mod Leaving
+pub mod Printed

@@ -37,15 +37,19 @@ pub record Section : Type 0 where
   pub box : Option (List Span)
   pub began : ℕ
 
+-- the records that a section is of
+abbrev pub items_of : Mission → Section → List Item
+items_of m d = take d.upto m.items
+
 abbrev pub section_of : ℕ → SectionEnd → Option (List Span) → Section
 section_of upto end box = record { upto = upto; answer = end.answer; box = box; began = end.began }
 
 -- What a section is, by its records alone: its box is the greatest common fixpoint, or empty exactly where there is none, or it was spent with its
 -- cause and lost no common fixpoint. It encloses every assignment that satisfies the records. No measure is above 2,000,000 cells' greatest widths.
 pub record IsSectionOf (m : Mission) (budget : ℕ) (d : Section) : Type 0 where
-  pub greatest : IsSectionAs m.cuts (take d.upto m.items) d.box d.answer
-  pub encloses : Encloses m.cuts (take d.upto m.items) d.box
-  pub cause : IsSpentAs m.cuts (take d.upto m.items) d.box d.began budget d.answer
+  pub greatest : IsSectionAs m.cuts (items_of m d) d.box d.answer
+  pub encloses : Encloses m.cuts (items_of m d) d.box
+  pub cause : IsSpentAs m.cuts (items_of m d) d.box d.began budget d.answer
   pub small : d.began ≤ 2000000000000000
 
 -- the box at which a section starts: that of the section before, which took the first records, with the new cells at their declared ranges

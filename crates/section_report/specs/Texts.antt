@@ -1,5 +1,5 @@
 -- What is written of sections.
-use Rattle.std.specs.Prelude.{ℕ, ◌+◌, Bool, List, [], ◌∷◌, ◌++◌, take}
+use Rattle.std.specs.Prelude.{ℕ, ◌+◌, Bool, List, [], ◌∷◌, ◌++◌}
 use Rattle.ctc_network.specs.declared.answers.Settled.{Settled}
 use Rattle.ctc_network.specs.declared.answers.Settled.TheVariants as answer
 use Rattle.mission_items.specs.declared.mission.Mission.{Mission}
@@ -7,7 +7,7 @@ use Rattle.mission_net.specs.Records.{shape_by}
 use Rattle.tube_report.specs.Sections.{section_text}
 use Rattle.tube_report.specs.declared.section.Verdict.{Verdict}
 use Rattle.tube_report.specs.declared.section.Verdict.TheVariants as verdict
-use Rattle.section_report.specs.Sections.{Section}
+use Rattle.section_report.specs.Sections.{Section, items_of}
 
 -- the verdict of a section, by the answer of settling
 abbrev pub verdict_of : Settled → Verdict
@@ -17,7 +17,7 @@ verdict_of (answer.Spent id) = verdict.Spent
 
 -- the text of a section with a number: over its records, with its verdict and its box
 abbrev pub text_of : Mission → Bool → ℕ → Section → List ℕ
-text_of m brief number d = section_text (take d.upto m.items) number (verdict_of d.answer) (shape_by m.cuts (take d.upto m.items)) d.box brief
+text_of m brief number d = section_text (items_of m d) number (verdict_of d.answer) (shape_by m.cuts (items_of m d)) d.box brief
 
 abbrev pub texts_from : Mission → Bool → ℕ → List Section → List ℕ
 texts_from m brief number [] = []

@@ -1,5 +1,4 @@
-use Rattle.std.proofs.Common.{Bool, Result, Ok, Err, IfOk, OnErr, sym, subst, ◌∙◌, take}
-use Rattle.mission_loops.specs.Writing.{AreWritten, AreCutShort}
+use Rattle.std.proofs.Common.{Result, Ok, Err, IfOk, OnErr, sym, ◌∙◌}
 use Rattle.codac_run.proofs.Telling.{told-none, told-after, cut-after}
 use Rattle.codac_run.proofs.reporting.tell.Goals as goal
 
@@ -13,36 +12,18 @@ on-err-then (Err e) P Q f p = f p
 
 pub returns-then-is_told-clause-told : goal.returns-then-is_told-clause-told
 returns-then-is_told-clause-told g c =
-    let m = c.args.mission.now in
-    let section = c.args.section.now in
-    let asked = c.args.asked.now in
-    let box = c.args.store.now.box in
-    let written = g.K.Sink.written in
-    let flushed = g.K.Sink.flushed in
-    let faults = g.K.Sink.faults in
-    let old = c.args.sink.now in
-    let new = c.write_findings.new.sink in
     if-ok-then c.write_findings.result _ _
-    (λ findings are. told-after written flushed faults m asked section box old new (sym c.is_told.ensures ∙ c.if-is_told.true) findings
-    (subst (λ (b : Bool). AreWritten written flushed faults m.cuts (take section.upto m.items) box b old new findings) c.is_brief.ensures are))
+    (λ findings are. told-after g.K.Sink.written g.K.Sink.flushed g.K.Sink.faults c.args.mission.now c.args.plan.now c.args.section.now c.args.store.now.box c.args.sink.now c.write_findings.new.sink
+    (sym c.is_told.ensures ∙ c.if-is_told.true) findings are)
     c.write_findings.ensures.written
 
 pub returns-then-is_told-clause-cut_short : goal.returns-then-is_told-clause-cut_short
 returns-then-is_told-clause-cut_short g c =
-    let m = c.args.mission.now in
-    let section = c.args.section.now in
-    let asked = c.args.asked.now in
-    let box = c.args.store.now.box in
-    let written = g.K.Sink.written in
-    let flushed = g.K.Sink.flushed in
-    let faults = g.K.Sink.faults in
-    let old = c.args.sink.now in
-    let new = c.write_findings.new.sink in
     on-err-then c.write_findings.result _ _
-    (λ short. cut-after written flushed faults m asked section box old new (sym c.is_told.ensures ∙ c.if-is_told.true)
-    (subst (λ (b : Bool). AreCutShort written flushed faults m.cuts (take section.upto m.items) box b old new) c.is_brief.ensures short))
+    (λ short. cut-after g.K.Sink.written g.K.Sink.flushed g.K.Sink.faults c.args.mission.now c.args.plan.now c.args.section.now c.args.store.now.box c.args.sink.now c.write_findings.new.sink
+    (sym c.is_told.ensures ∙ c.if-is_told.true) short)
     c.write_findings.ensures.cut_short
 
 pub returns-clause-told : goal.returns-clause-told
 returns-clause-told g c =
-    told-none g.K.Sink.written g.K.Sink.flushed g.K.Sink.faults c.args.mission.now c.args.asked.now c.args.section.now c.args.store.now.box c.args.sink.now (sym c.is_told.ensures ∙ c.if-is_told.false)
+    told-none g.K.Sink.written g.K.Sink.flushed g.K.Sink.faults c.args.mission.now c.args.plan.now c.args.section.now c.args.store.now.box c.args.sink.now (sym c.is_told.ensures ∙ c.if-is_told.false)

@@ -4,5 +4,5 @@ use Rattle.codac_run.proofs.top.make_and_report.Goals as goal
 
 pub returns-in-Ok-clause-enough : goal.returns-in-Ok-clause-enough
 returns-in-Ok-clause-enough g c above spent =
-    let most = spent-small c.in-Ok.made.mission c.args.asked.now (g.K.Sink.written c.args.sink.now) (g.K.Sink.written c.report.new.sink) (g.K.Sink.flushed c.report.new.sink) c.report.result c.report.ensures.ends spent in
+    let most = spent-small c.in-Ok.made.mission c.args.plan.now (g.K.Sink.written c.args.sink.now) (g.K.Sink.written c.report.new.sink) (g.K.Sink.flushed c.report.new.sink) c.report.result c.report.ensures.ends spent in
     omega (arith, above, most)

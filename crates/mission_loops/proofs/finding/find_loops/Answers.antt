@@ -25,11 +25,11 @@ if-ok-then : {S E : Type 0} (r : Result S E) (A B : S → Type 0) → ((s : S) �
 if-ok-then (Ok s) A B f a = f s a
 if-ok-then (Err e) A B f a = tt
 
-pub returns : goal.returns
-returns g c =
+pub returns-clause-told : goal.returns-clause-told
+returns-clause-told g c =
     let m = c.args.mission.now in
     let box = c.args.store.now.box in
     if-ok-then c.sets_over.result (λ (told : Option (List Found)). IsToldOver c.first_items.result.now c.args.store.now.shape box c.args.q.now told)
     (λ (told : Option (List Found)). IsTold m.cuts (take c.args.upto m.items) box c.args.q.now told)
     (λ told over. told-of m c.args.upto box c.args.q.now told c.requires.mission c.requires.asked c.requires.encloses c.args.store.now.shape c.requires.shape c.first_items.result.now c.first_items.ensures over)
-    c.sets_over.ensures
+    c.sets_over.ensures.told

@@ -14,10 +14,10 @@ proved-requires-clause-rates_y g c =
 
 pub proved-requires-clause-components : goal.proved-requires-clause-components
 proved-requires-clause-components g c =
-    components-over c.args.items.now c.args.store.now.shape c.args.q.now c.args.store.now.box c.in_ok-runs.field-0 c.in-Some.runs c.in-Some.is c.in_ok-runs.ensures c.in_ok-sets.sets.items c.in_ok-sets.ensures
+    components-over c.args.items.now c.args.store.now.shape c.args.q.now c.args.store.now.box c.in_ok-runs.field-0 c.in-Some.runs c.in-Some.is c.in_ok-runs.ensures.paved c.in_ok-sets.sets.items c.in_ok-sets.ensures
 
-pub returns : goal.returns
-returns g c =
-    told-sets c.args.items.now c.args.store.now.shape c.args.q.now c.args.store.now.box c.in_ok-runs.field-0 c.in-Some.runs c.in-Some.is c.in_ok-runs.ensures c.in_ok-sets.sets.items c.in_ok-sets.ensures
+pub returns-clause-told : goal.returns-clause-told
+returns-clause-told g c =
+    told-sets c.args.items.now c.args.store.now.shape c.args.q.now c.args.store.now.box c.in_ok-runs.field-0 c.in-Some.runs c.in-Some.is c.in_ok-runs.ensures.paved c.in_ok-sets.sets.items c.in_ok-sets.ensures
     (map (λ (r : SignalId). r.0) c.deref.result.now) (map (λ (r : SignalId). r.0) c.deref-2.result.now) c.in_ok-found.found.items c.new.result c.requires.filled
     (rw c.deref.ensures.value c.in_ok-rates_x.ensures) (rw c.deref-2.ensures.value c.in_ok-rates_y.ensures) c.in_ok-found.ensures.sets c.in_ok-found.ensures.found c.new.ensures

@@ -1,7 +1,7 @@
 use Rattle.std.proofs.Common.{arith, ap, Err, []}
 use Rattle.std.proofs.lemmas.List.Sums.{sum_by-cons}
-use Rattle.mission_net.specs.Constraints.{reads_of}
-use Rattle.mission_net.specs.Contractors.{constraint_of}
+use Rattle.any_ctc.specs.Constraints.{reads_of}
+use Rattle.any_ctc.specs.Contractors.{constraint_of}
 use Rattle.mission_net.proofs.Reading.{net-reads, scope-length}
 use Rattle.mission_net.proofs.adding.add_contractor.Goals as goal
 

@@ -2,7 +2,7 @@ use Rattle.std.proofs.Common.{◌≡◌, ℕ, ◌-◌, [], ◌∷◌, arith, sub
 use Rattle.expr_hc4.specs.Programs.{bound_comparison}
 use Rattle.expr_hc4.specs.declared.places.Place.TheVariants.{Gate}
 use Rattle.ctc_deriv.specs.Bounds.{each_below}
-use Rattle.mission_net.specs.Constraints.{ExprOf}
+use Rattle.any_ctc.specs.Constraints.{ExprOf}
 use Rattle.mission_net.specs.Records.{formula_at}
 use Rattle.mission_net.specs.Building.{CanAdd, IsAdded}
 use Rattle.mission_net.proofs.Additions.{can-rest, can-row, row-more}

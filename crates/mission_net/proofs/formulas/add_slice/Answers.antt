@@ -1,7 +1,7 @@
 use Rattle.std.proofs.Common.{[], ◌∷◌}
 use Rattle.expr_hc4.specs.Programs.{bound_comparison}
 use Rattle.expr_hc4.specs.declared.places.Place.TheVariants.{Gate, Envelope}
-use Rattle.mission_net.specs.Constraints.{ExprOf}
+use Rattle.any_ctc.specs.Constraints.{ExprOf}
 use Rattle.mission_net.proofs.Additions.{can-rest}
 use Rattle.mission_net.proofs.formulas.add_slice.Goals as goal
 

@@ -1,5 +1,5 @@
 use Rattle.std.proofs.Common.{[], ◌∷◌, List}
-use Rattle.mission_net.specs.Constraints.{Constraint, DelayToOf, DelayFromOf, DelayShiftOf}
+use Rattle.any_ctc.specs.Constraints.{Constraint, DelayToOf, DelayFromOf, DelayShiftOf}
 use Rattle.mission_net.specs.Building.{IsAdded}
 use Rattle.mission_net.proofs.Additions.{can-first, can-rest}
 use Rattle.mission_net.proofs.motion.add_delay.Goals as goal

@@ -1,6 +1,6 @@
 use Rattle.std.proofs.Common.{[], ◌∷◌}
 use Rattle.ctc_deriv.specs.Bounds.{each_below}
-use Rattle.mission_net.specs.Constraints.{SliceOf}
+use Rattle.any_ctc.specs.Constraints.{SliceOf}
 use Rattle.mission_net.proofs.Additions.{can-all, can-row, row-more}
 use Rattle.mission_net.proofs.motion.add_slices.Goals as goal
 

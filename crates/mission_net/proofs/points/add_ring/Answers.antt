@@ -1,9 +1,9 @@
 use Rattle.std.proofs.Common.{◌≡◌, ℕ, ◌+◌, [], ◌∷◌, List, Option, ap₂, refl, subst, sym}
-use Rattle.mission_net.specs.Constraints.{DistOf, ConstellOf, reads_in}
+use Rattle.any_ctc.specs.Constraints.{DistOf, ConstellOf, reads_in}
 use Rattle.mission_net.specs.Records.{point_at}
 use Rattle.mission_net.specs.Tables.{mark_by, target_by}
 use Rattle.mission_net.specs.Building.{CanAdd}
-use Rattle.point_cells.specs.Points.{numbers}
+use Rattle.tube_names.specs.Points.{numbers}
 use Rattle.mission_net.proofs.Additions.{can-after}
 use Rattle.mission_net.proofs.points.add_ring.Goals as goal
 

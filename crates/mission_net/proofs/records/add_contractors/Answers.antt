@@ -4,16 +4,16 @@ use Rattle.tube_spec.specs.Span.{Span, point}
 use Rattle.tube_store.specs.declared.SignalId.{SignalId}
 use Rattle.tube_store.specs.declared.VarId.{VarId}
 use Rattle.ctc_network.specs.Nets.{NetState}
-use Rattle.point_cells.specs.Points.{numbers}
+use Rattle.tube_names.specs.Points.{numbers}
 use Rattle.mission_items.specs.declared.item.Item.{Item}
 use Rattle.mission_items.specs.declared.item.Item.TheVariants as item
 use Rattle.mission_items.specs.Made.{ticks_from, variable_range, variables_in}
 use Rattle.mission_items.specs.Valid.{IsMark}
-use Rattle.mission_net.specs.Constraints.{Constraint, ConstellOf, DistOf}
+use Rattle.any_ctc.specs.Constraints.{Constraint, ConstellOf, DistOf}
 use Rattle.mission_net.specs.Records.{constraints_of, evaluation, mark_constraints, point_at, target_of}
 use Rattle.mission_net.specs.Tables.{evaluation_by, mark_by, target_by, IsTableOf, Table}
 use Rattle.mission_net.specs.Building.{CanAdd, HasBeacon, IsAdded, IsBeside, IsTimed}
-use Rattle.mission_net.specs.declared.AnyCtc.{AnyCtc}
+use Rattle.any_ctc.specs.declared.AnyCtc.{AnyCtc}
 use Rattle.mission_net.proofs.Additions.{added-then, can-first, can-rest}
 use Rattle.mission_net.proofs.ByTable.{at-by, beacon-in, constell-by, eval-by, evaluated-below, other-below, ping-by}
 use Rattle.mission_net.proofs.Tabling.{on_ok}

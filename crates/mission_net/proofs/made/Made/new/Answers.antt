@@ -1,6 +1,6 @@
 use Rattle.std.proofs.Common.{◌∙◌, ap, refl, map}
 use Rattle.std.proofs.lemmas.List.{length-map}
-use Rattle.point_cells.specs.Points.{numbers}
+use Rattle.tube_names.specs.Points.{numbers}
 use Rattle.ctc_eval.specs.Held.{rate_of}
 use Rattle.mission_net.proofs.made.Made.new.Goals as goal
 

@@ -1,6 +1,0 @@
-use Rattle.demo_course.specs.Draws.{words_of}
-use Rattle.demo_length.proofs.Short.{log-short}
-use Rattle.demo_length.proofs.demo_log_is_short.Goals as goal
-
-pub returns : goal.returns
-returns c = λ seed. log-short (words_of seed 50)
