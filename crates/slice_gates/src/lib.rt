@@ -15,7 +15,7 @@ ghost use Rattle.slice_gates.specs.Ticks.{IsSliceOf, IsGateOf};
 ghost use Rattle.slice_gates.specs.declared.GridFault.TheVariants.{NoMemory};
 
 pub use clock::{Ticks, ticks_in};
-pub use laws::near_law;
+pub use laws::{near_law, place_law};
 pub use near::{Near, near_in};
 use std::alloc::{AllocError, Global};
 use std::marker::Model;
