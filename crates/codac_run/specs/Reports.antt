@@ -1,5 +1,6 @@
 -- What a run writes and hands out, and what its report says.
 use Rattle.std.specs.Prelude.{◌≡◌, ℕ, ◌⊎◌, Bool, true, List, Option, Some, None, IsSomeAnd, option_map, IsFalse, Result, Ok, Err, All, [], ◌∷◌, ◌++◌, ◌+◌, ◌<◌, length}
+use Rattle.tube_spec.specs.Limits.{most_bytes}
 use Rattle.tube_spec.specs.Span.{Span}
 use Rattle.tube_spec.specs.Box.{measure_of}
 use Rattle.tube_io.specs.Moves.{AllFlushed}
@@ -184,7 +185,7 @@ abbrev pub EndsFrom : Origin → Plan → Option (List ℕ) → Option (List ℕ
 EndsFrom (origin.Demo seed) plan left rest old new flushed e = Stops status.NoMemory old new e ⊎ EndsBy (Ok (demo_mission seed)) plan old new flushed e
 EndsFrom origin.Source plan left rest old new flushed e =
     Stops status.NoMemory old new e ⊎ Stops status.ReadFault old new e
-    ⊎ ((heard : Option (List ℕ)) × Hears 67108864 left rest heard × TellsLowest heard × EndsBy (log_heard heard) plan old new flushed e)
+    ⊎ ((heard : Option (List ℕ)) × Hears most_bytes left rest heard × TellsLowest heard × EndsBy (log_heard heard) plan old new flushed e)
 
 -- with wrong words the usage line; with right ones what their plan is for
 abbrev pub Ends : Option Plan → Option (List ℕ) → Option (List ℕ) → Option (List ℕ) → Option (List ℕ) → Option ℕ → Ended → Type 0

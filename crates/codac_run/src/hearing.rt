@@ -10,9 +10,6 @@ use mission_log::{LogFault, read_log};
 use std::alloc::Global;
 use tube_io::{ReadEnd, Source, read_whole};
 
-/// The most bytes that a log may have.
-pub(crate) const MAX_LOG: usize = 67_108_864;
-
 /// What was heard of a log, with its bytes, or why nothing was.
 #[derive(Drop)]
 pub(crate) enum Heard {

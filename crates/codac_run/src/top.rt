@@ -10,7 +10,7 @@ ghost use Rattle.codac_run.specs.Statuses.{standing_of, CanEnd, IsWholeOrNoMemor
 
 use crate::ended::{Ended, Status};
 use crate::ending::{refuse, usage};
-use crate::hearing::{Heard, MAX_LOG, hear};
+use crate::hearing::{Heard, hear};
 use crate::plan::{Origin, Plan, read_plan};
 use crate::reporting::report;
 use cli_words::Words;
@@ -20,6 +20,7 @@ use std::alloc::Global;
 use std::sync::ledger::Ledger;
 use step_count::Steps;
 use tube_io::{NoMemory, Sink, Source};
+use tube_limits::MOST_BYTES;
 
 /// Reads and judges the whole log, and writes its report, or the line of its fault.
 fn hear_and_report<S: Source, K: Sink, L: Ledger>(
@@ -35,7 +36,7 @@ fn hear_and_report<S: Source, K: Sink, L: Ledger>(
     ensures write { result.status ≡ Status.WriteFault → Rose (K.faults sink.old) (K.faults sink.new) }
     ensures unflushed { result.status ≡ Status.WriteFault → K.flushed sink.new ≡ K.flushed sink.old }
 {
-    match hear(alloc, source, MAX_LOG) {
+    match hear(alloc, source, MOST_BYTES) {
         Heard::Accepted { bytes: _, mission } => report(alloc, plan, &mission, sink, steps),
         Heard::Refused { number, cause } => refuse(sink, number, cause),
         Heard::Failed => Ended::only(Status::ReadFault),

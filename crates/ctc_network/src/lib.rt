@@ -20,4 +20,5 @@ mod noting;
 
 pub use answers::{AddFault, CtcId, Order, Settled};
 pub use laws::{event_law, schedule_law, section_law};
-pub use net::{MOST_READS, Net};
+pub use net::Net;
+pub use tube_limits::MOST_READS;

@@ -23,10 +23,8 @@ use std::alloc::Global;
 use std::marker::Model;
 use std::sync::ledger::Ledger;
 use step_count::Steps;
+use tube_limits::MOST_READS;
 use tube_store::{CellId, SignalId, Store, StoreFault, VarId};
-
-/// The most cells that the contractors of a net may read, those of each added up.
-pub const MOST_READS: u32 = 20_000_000;
 
 /// A store and its contractors, each of which waits to be fired or leaves the box as it is.
 #[derive(Drop)]

@@ -31,7 +31,7 @@ pub square-small : (z : ℤ) → Holds (within 60000) z → unsigned_abs z * uns
 square-small z h = mul-le (unsigned_abs z) (unsigned_abs z) 60000 60000 (abs-small 60000 z h) (abs-small 60000 z h)
 
 -- distances of a course from its beacons
-pub distance-small : (words : List ℕ) (k i : ℕ) → k ≤ 2000 → distance_of words k i ≤ 100000
+pub distance-small : (words : List ℕ) (k i : ℕ) → k ≤ 2000 → distance_of words k i ≤ 90000
 unfolding distance_of
 distance-small words k i early =
     let near : (axis : Axis) → Holds (within 60000) (difference words axis k i) = λ axis.
@@ -39,7 +39,7 @@ distance-small words k i early =
     let q = place-within words axis i in
     record { low = omega (arith, ints, p.low, q.high, early); high = omega (arith, ints, p.high, q.low, early) } in
     let sum = ap natural (sum-is (difference words X k i) (difference words Y k i)) in
-    let far : 100001 ≤ whole_root (natural (squared_distance words k i)) → 100001 * 100001 ≤ natural (squared_distance words k i) = (roots-greatest (natural (squared_distance words k i)) 100001).1 in
+    let far : 90001 ≤ whole_root (natural (squared_distance words k i)) → 90001 * 90001 ≤ natural (squared_distance words k i) = (roots-greatest (natural (squared_distance words k i)) 90001).1 in
     let one = square-small (difference words X k i) (near X) in
     let other = square-small (difference words Y k i) (near Y) in
     let bound : natural (squared_distance words k i) ≤ 7200000000 = omega (arith, sum, one, other) in

@@ -14,12 +14,12 @@ within n = record { lo = neg_ℤ (pos n); hi = pos n }
 abbrev pub RootsAreGreatest : Type 0
 RootsAreGreatest = (n r : ℕ) → (r * r ≤ n) ↔ (r ≤ whole_root n)
 
--- whatever is drawn, rates are at most 20, positions at most 20 a tick, and beacons at most 20000 from 0; so no distance is above 100000
+-- whatever is drawn, rates are at most 20, positions at most 20 a tick, and beacons at most 20000 from 0; so no distance is above 90000
 pub record IsBoundedCourse (words : List ℕ) : Type 0 where
   pub rate : (axis : Axis) (j : ℕ) → Holds (within 20) (rate_of words axis j)
   pub position : (axis : Axis) (k : ℕ) → Holds (within (20 * k)) (position_at words axis k)
   pub place : (axis : Axis) (i : ℕ) → Holds (within 20000) (place_of words axis i)
-  pub distance : (k i : ℕ) → k ≤ 2000 → distance_of words k i ≤ 100000
+  pub distance : (k i : ℕ) → k ≤ 2000 → distance_of words k i ≤ 90000
 
 -- a course begins at 0, and from each tick to the next the position changes by the rate
 pub record IsMoved (words : List ℕ) : Type 0 where

@@ -92,7 +92,7 @@ impl Course {
         requires tick { tick ≤ 2000 }
         requires beacon { beacon < 5 }
         ensures value { result ≡ distance_of self.now tick beacon }
-        ensures small { result ≤ 100000 }
+        ensures small { result ≤ 90000 }
     {
         let across = self.difference(Axis::X, x, tick, beacon);
         let along = self.difference(Axis::Y, y, tick, beacon);

@@ -37,9 +37,9 @@ fn rate_signal(axis: Axis) -> SignalId
 
 // The numbers at most `reach` from another.
 fn around(reach: i64, middle: i64) -> Interval
-    requires reach { Holds (within 100000) reach }
+    requires reach { Holds (within 50000) reach }
     requires some_reach { pos 0 ≤ℤ reach }
-    requires middle { Holds (within 100000) middle }
+    requires middle { Holds (within 50000) middle }
     ensures { result ≡ record { lo = middle -ℤ reach; hi = middle +ℤ reach } }
 {
     Interval::new(middle - reach, middle + reach).unwrap()
@@ -47,7 +47,7 @@ fn around(reach: i64, middle: i64) -> Interval
 
 /// A signal, whose values are at most `reach` from 0.
 pub fn signal(alloc: Global, name: &[u8], reach: u32) -> Result<Item, NoMemory>
-    requires { reach ≤ 100000 }
+    requires { reach ≤ 50000 }
     ensures { IfOk result (λ made. made ≡ item.Signal name.now (within reach)) }
 {
     Ok(Item::Signal {

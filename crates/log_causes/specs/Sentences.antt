@@ -6,6 +6,7 @@ use Rattle.log_spelling.specs.References.{bare_name}
 use Rattle.log_spelling.specs.Kinds.{kind_of}
 use Rattle.log_spelling.specs.declared.kind.Kind.{Kind}
 use Rattle.log_spelling.specs.declared.kind.Kind.TheVariants as kind
+use Rattle.tube_spec.specs.Limits.{most_reads, most_records}
 use Rattle.expr_tree.specs.Trees.{Relation}
 use Rattle.expr_tree.specs.Measures.{relation_names}
 use Rattle.formula_text.specs.Readings.{Deep, Text, TextCause, reading_of}
@@ -161,10 +162,10 @@ abbrev pub are_cells_few : Mission → Item → Bool
 are_cells_few d i = are_few d.cuts (signals_in d.items + signals_made i) (variables_in d.items + variables_made i)
 
 abbrev pub are_feet_few : Mission → Item → Bool
-are_feet_few d i = nat_le (feet_of d.cuts d.items + foot_of d.cuts d.items i) 20000000
+are_feet_few d i = nat_le (feet_of d.cuts d.items + foot_of d.cuts d.items i) most_reads
 
 abbrev pub are_records_few : Mission → Bool
-are_records_few d = nat_le (length d.items + 1) 1000000
+are_records_few d = nat_le (length d.items + 1) most_records
 
 -- ---- the sentences
 

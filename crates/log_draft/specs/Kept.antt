@@ -1,6 +1,7 @@
 -- What a draft keeps beside its records.
 use Rattle.std.specs.Prelude.{◌≡◌, ℕ, ◌<◌, Bool, true, false, List, Some, is_some, slice_index_or}
 use Rattle.std.specs.List.{list_all}
+use Rattle.tube_spec.specs.Limits.{most_signals}
 use Rattle.mission_items.specs.Made.{beacons_in, has_head, rate_in, signals_in, variables_in}
 use Rattle.mission_items.specs.Names.{declaration_of, declared}
 use Rattle.mission_items.specs.Room.{feet_of}
@@ -29,7 +30,7 @@ pub record IsKept (table : List (List ℕ × Decl)) (head open_ : Bool) (rated :
   pub names : table ≡ declared m.items
   pub headed : head ≡ has_head m.items
   pub opened : open_ ≡ list_all may_precede_cut m.items
-  pub rates : (x : ℕ) → x < 64 → slice_index_or rated x false ≡ is_some (rate_in m.items x)
+  pub rates : (x : ℕ) → x < most_signals → slice_index_or rated x false ≡ is_some (rate_in m.items x)
   pub counts : AreCounts c m.cuts m.items
   pub few : AreFew m
   pub right : AreRight m.version m.ticks m.items

@@ -2,6 +2,7 @@
 
 ghost use Rattle.std.specs.Prelude.{◌≡◌, ◌≤◌, ◌<◌, ◌+◌, ◌||◌, ◌&&◌, not, true, false, None, Some, Ok, List, [], ◌∷◌, ◌++◌, ℕ, is_some, length, slice_index_or, if◌then◌else◌, IfOk, IfSome, OnOk};
 ghost use Rattle.std.specs.List.{list_all};
+ghost use Rattle.tube_spec.specs.Limits.{most_records, most_signals, most_ticks};
 ghost use Rattle.slice_gates.specs.Cuts.{uniform_cuts};
 ghost use Rattle.log_fields.specs.Fields.{tick_of};
 ghost use Rattle.log_fields.specs.Steps.{Gives, unless};
@@ -26,7 +27,8 @@ use name_table::NameTable;
 use std::alloc::Global;
 use std::marker::Model;
 use tube_io::NoMemory;
-use tube_store::{SignalId, VarId};
+use tube_limits::{MOST_READS, MOST_RECORDS, MOST_SIGNALS, MOST_VARIABLES};
+use tube_store::{MOST_CELLS, SignalId, VarId};
 
 /// A mission that is being read. A contract sees the mission so far.
 #[derive(Drop)]
@@ -39,7 +41,7 @@ pub struct Draft {
     names: NameTable,
     has_head: bool,
     is_open: bool,
-    rated: [bool; 64],
+    rated: [bool; MOST_SIGNALS],
     counts: Counts,
 }
 
@@ -82,7 +84,7 @@ impl Draft {
     /// How many records were taken.
     pub fn len(&self) -> usize
         ensures value { result ≡ length self.now.items }
-        ensures few { result ≤ 1000000 }
+        ensures few { result ≤ most_records }
     {
         self.items.len()
     }
@@ -118,7 +120,7 @@ impl Draft {
     /// How many slices there are.
     pub fn slices(&self) -> u32
         ensures value { result ≡ slices_in self.now.cuts }
-        ensures few { result ≤ 100000 }
+        ensures few { result ≤ most_ticks }
     {
         self.clock.slices()
     }
@@ -295,7 +297,7 @@ impl Draft {
     {
         let each = 2 * u64::from(self.slices()) + 1;
         let cells = u64::from(signals) * each + u64::from(variables);
-        signals <= 64 && variables <= 200_000 && cells <= 2_000_000
+        signals <= MOST_SIGNALS as u32 && variables <= MOST_VARIABLES && cells <= MOST_CELLS as u64
     }
 
     /// The counts with one record more, where it fits.
@@ -310,8 +312,8 @@ impl Draft {
         let variables = self.counts.variables + item.variables_made();
         let feet = self.counts.feet + foot;
         ensure(self.are_few(signals, variables), Cause::Cells)?;
-        ensure(feet <= 20_000_000, Cause::Foot)?;
-        ensure(self.items.len() < 1_000_000, Cause::Records)?;
+        ensure(feet <= MOST_READS, Cause::Foot)?;
+        ensure(self.items.len() < MOST_RECORDS, Cause::Records)?;
         Ok(Counts {
             signals,
             variables,
@@ -412,9 +414,9 @@ impl Draft {
         requires first_version { 1 ≤ version }
         requires last_version { version ≤ 2 }
         requires some_tick { 1 ≤ ticks }
-        requires few_ticks { ticks ≤ 100000 }
+        requires few_ticks { ticks ≤ most_ticks }
         requires some_width { 1 ≤ width }
-        requires small_width { width ≤ 100000 }
+        requires small_width { width ≤ most_ticks }
         ensures started { OnOk result (self.new ≡ started (version, ticks, width) self.old) }
         ensures clock { OnOk result (IsClock version ticks width (uniform_cuts ticks width) self.old.items) }
     {
@@ -451,10 +453,10 @@ impl Draft {
     }
 }
 
-fn no_rates() -> [bool; 64]
-    ensures { (x : ℕ) → x < 64 → slice_index_or result x false ≡ false }
+fn no_rates() -> [bool; MOST_SIGNALS]
+    ensures { (x : ℕ) → x < most_signals → slice_index_or result x false ≡ false }
 {
-    [false; 64]
+    [false; MOST_SIGNALS]
 }
 
 #[tactic(auto, using(crate::proofs::Records::natural_most))]
@@ -484,12 +486,12 @@ fn revisits_made(item: &Item) -> u32
     }
 }
 
-fn mark_rate(rated: &mut [bool; 64], item: &Item)
-    ensures { (x : ℕ) → x < 64 → slice_index_or rated.new x false ≡ (slice_index_or rated.old x false || is_some (rate_in (item.now ∷ []) x)) }
+fn mark_rate(rated: &mut [bool; MOST_SIGNALS], item: &Item)
+    ensures { (x : ℕ) → x < most_signals → slice_index_or rated.new x false ≡ (slice_index_or rated.old x false || is_some (rate_in (item.now ∷ []) x)) }
 {
     if let Item::Deriv { x, .. } = item {
         let place = x.0 as usize;
-        if place < 64 {
+        if place < MOST_SIGNALS {
             rated[place] = true;
         }
     }

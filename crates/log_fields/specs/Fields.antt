@@ -1,5 +1,5 @@
 -- The fields of a record, as names, references, numbers, ranges, radii and ticks.
-use Rattle.std.specs.Prelude.{ℕ, ◌+◌, ◌&&◌, nat_le, Bool, List, [], length, Option, Some, None, Result, Ok, Err, unwrap_or, ℤ, pos, negsuc, ◌≤ℤ◌, int_le, codes, bytes_eq, if◌then◌else◌}
+use Rattle.std.specs.Prelude.{ℕ, ◌+◌, ◌&&◌, nat_le, Bool, List, [], length, Option, Some, None, Result, Ok, Err, unwrap_or, ℤ, pos, negsuc, neg_ℤ, ◌≤ℤ◌, int_le, codes, bytes_eq, if◌then◌else◌}
 use Rattle.csv.specs.Records.{field_at}
 use Rattle.csv_rows.specs.Records.{Record}
 use Rattle.log_spelling.specs.Blanks.{trimmed}
@@ -7,6 +7,7 @@ use Rattle.log_spelling.specs.Names.{is_name}
 use Rattle.log_spelling.specs.Numbers.{number_of}
 use Rattle.log_spelling.specs.References.{bare_name, is_reference, part_of}
 use Rattle.log_spelling.specs.declared.reference.Part.{Part}
+use Rattle.tube_spec.specs.Limits.{greatest_bound, greatest_radius, most_ticks}
 use Rattle.tube_spec.specs.Span.{Span, IsProper, IsBounded}
 use Rattle.log_fields.specs.Steps.{◌>>=◌, found_or, unless}
 use Rattle.log_fields.specs.declared.fault.Cause.{Cause}
@@ -39,12 +40,12 @@ number_at r i = found_or (number_of (field r i)) cause.Number
 
 -- a count of ticks is from 1 to 100,000
 unfoldable pub count_of : ℤ → Result ℕ Cause
-count_of (pos n) = if nat_le 1 n && nat_le n 100000 then Ok n else Err cause.Range
+count_of (pos n) = if nat_le 1 n && nat_le n most_ticks then Ok n else Err cause.Range
 count_of (negsuc n) = Err cause.Range
 
 -- the bounds of a declared or measured range are from -500,000,000 to 500,000,000, in order
 abbrev pub are_bounds : ℤ → ℤ → Bool
-are_bounds lo hi = int_le (negsuc 499999999) lo && (int_le hi (pos 500000000) && int_le lo hi)
+are_bounds lo hi = int_le (neg_ℤ (pos greatest_bound)) lo && (int_le hi (pos greatest_bound) && int_le lo hi)
 
 unfoldable pub range_of : ℤ → ℤ → Result Span Cause
 range_of lo hi = if are_bounds lo hi then Ok (record { lo = lo; hi = hi }) else Err cause.Range
@@ -58,11 +59,11 @@ range_at r i = do
 
 -- a radius is from 0 to 2,000,000,000
 unfoldable pub is_radius : ℤ → Bool
-is_radius z = int_le (pos 0) z && int_le z (pos 2000000000)
+is_radius z = int_le (pos 0) z && int_le z (pos greatest_radius)
 
 -- two radii, of which the nearer one comes first
 abbrev pub are_radii : ℤ → ℤ → Bool
-are_radii near far = int_le (pos 0) near && (int_le near far && int_le far (pos 2000000000))
+are_radii near far = int_le (pos 0) near && (int_le near far && int_le far (pos greatest_radius))
 
 -- the radii that two fields spell, of which both have to be numbers
 unfoldable pub radii_at : Record → ℕ → Result (ℤ × ℤ) Cause
@@ -94,13 +95,13 @@ version_at r = if nat_le (length r) 1 then Err cause.Fields else found_or (versi
 
 -- a range has a number and lies from -500,000,000 to 500,000,000
 abbrev pub IsRange : Span → Type 0
-IsRange range = IsProper range × IsBounded 500000000 range
+IsRange range = IsProper range × IsBounded greatest_bound range
 
 pub record IsRadius (radius : ℤ) : Type 0 where
   pub from_zero : pos 0 ≤ℤ radius
-  pub bounded : radius ≤ℤ pos 2000000000
+  pub bounded : radius ≤ℤ pos greatest_radius
 
 pub record AreRadii (near far : ℤ) : Type 0 where
   pub from_zero : pos 0 ≤ℤ near
   pub in_order : near ≤ℤ far
-  pub bounded : far ≤ℤ pos 2000000000
+  pub bounded : far ≤ℤ pos greatest_radius

@@ -1,6 +1,7 @@
 -- The causes that a record has by itself, each as a sentence about its fields.
 use Rattle.std.specs.Prelude.{ℕ, suc, ◌==◌, ◌&&◌, ◌||◌, not, nat_le, Bool, true, false, List, [], ◌∷◌, length, Option, Some, None, Result, Ok, Err, unwrap_or, is_some, find, ℤ, pos, negsuc, codes, bytes_eq}
 use Rattle.csv_rows.specs.Records.{Record}
+use Rattle.tube_spec.specs.Limits.{most_ticks}
 use Rattle.log_spelling.specs.Names.{is_name}
 use Rattle.log_spelling.specs.Numbers.{number_of}
 use Rattle.log_spelling.specs.References.{is_reference}
@@ -67,7 +68,7 @@ value r i = unwrap_or (number_of (field r i)) (pos 0)
 
 -- a count of ticks
 abbrev pub is_count : ℤ → Bool
-is_count (pos n) = nat_le 1 n && nat_le n 100000
+is_count (pos n) = nat_le 1 n && nat_le n most_ticks
 is_count (negsuc n) = false
 
 -- the numbers of a record are within their limits, and bounds and radii are in order

@@ -2,6 +2,7 @@
 
 ghost use Rattle.std.specs.Prelude.{◌≤◌, IfOk};
 ghost use Rattle.csv.specs.Records.{fields_of};
+ghost use Rattle.tube_spec.specs.Limits.{most_ticks};
 ghost use Rattle.log_fields.specs.Kinds.{cut_fields, mission_fields};
 ghost use Rattle.log_fields.specs.Steps.{Gives};
 
@@ -24,9 +25,9 @@ pub fn mission_fields(row: &ByteRecord) -> Result<ClockFields, Stop>
     ensures first_version { IfOk result (λ f. 1 ≤ f.version) }
     ensures last_version { IfOk result (λ f. f.version ≤ 2) }
     ensures some_tick { IfOk result (λ f. 1 ≤ f.ticks) }
-    ensures few_ticks { IfOk result (λ f. f.ticks ≤ 100000) }
+    ensures few_ticks { IfOk result (λ f. f.ticks ≤ most_ticks) }
     ensures some_width { IfOk result (λ f. 1 ≤ f.width) }
-    ensures small_width { IfOk result (λ f. f.width ≤ 100000) }
+    ensures small_width { IfOk result (λ f. f.width ≤ most_ticks) }
 {
     let version = version_at(row)?;
     ensure(row.len() == 4, Cause::Fields)?;

@@ -3,6 +3,7 @@
 ghost use Rattle.std.specs.Prelude.{◌≡◌, ◌<◌, ◌≤◌, true, IfOk, IfSome, option_map};
 ghost use Rattle.csv.specs.Records.{fields_of};
 ghost use Rattle.log_spelling.specs.Names.{is_name};
+ghost use Rattle.tube_spec.specs.Limits.{most_ticks};
 ghost use Rattle.log_fields.specs.Fields.{AreRadii, IsRadius, IsRange, beacon_at, count_of, field, is_radius, name_at, number_at, radii_at, range_at, range_of, reference_at, tick_of, version_at, version_of};
 ghost use Rattle.log_fields.specs.Said.{IsSpelled, said};
 ghost use Rattle.log_fields.specs.Steps.{Gives, unless};
@@ -11,6 +12,9 @@ use crate::fault::{Cause, Stop};
 use csv::ByteRecord;
 use int_interval::Interval;
 use log_spelling::{Part, bare_name, is_name, is_reference, number_of, part_of, trimmed};
+use slice_gates::MOST_TICKS;
+use tube_limits::GREATEST_RADIUS;
+use tube_store::GREATEST_BOUND;
 
 /// What a field of a variable means: a bare name, and which part of what bears it.
 #[derive(Clone, Copy, Debug)]
@@ -104,9 +108,9 @@ pub fn number_at(row: &ByteRecord, i: usize) -> Result<i64, Stop>
 pub fn count_of(n: i64) -> Result<u32, Stop>
     ensures value { Gives (λ count. count) result (count_of n) }
     ensures some { IfOk result (λ count. 1 ≤ count) }
-    ensures few { IfOk result (λ count. count ≤ 100000) }
+    ensures few { IfOk result (λ count. count ≤ most_ticks) }
 {
-    if 1 <= n && n <= 100_000 {
+    if 1 <= n && n <= i64::from(MOST_TICKS) {
         Ok(n as u32)
     } else {
         Err(Stop::Because(Cause::Range))
@@ -119,7 +123,7 @@ pub fn range_of(lo: i64, hi: i64) -> Result<Interval, Stop>
     ensures value { Gives (λ range. range) result (range_of lo hi) }
     ensures within { IfOk result IsRange }
 {
-    if lo < -500_000_000 || 500_000_000 < hi {
+    if lo < -GREATEST_BOUND || GREATEST_BOUND < hi {
         return Err(Stop::Because(Cause::Range));
     }
     match Interval::new(lo, hi) {
@@ -146,7 +150,7 @@ pub fn ensure_radius(radius: i64) -> Result<(), Stop>
     ensures value { Gives (λ _. tt) result (unless (is_radius radius) Cause.Range) }
     ensures within { IfOk result (λ _. IsRadius radius) }
 {
-    if 0 <= radius && radius <= 2_000_000_000 {
+    if 0 <= radius && radius <= GREATEST_RADIUS {
         Ok(())
     } else {
         Err(Stop::Because(Cause::Range))
@@ -162,7 +166,7 @@ pub fn radii_at(row: &ByteRecord, i: usize) -> Result<(i64, i64), Stop>
 {
     let near = number_at(row, i)?;
     let far = number_at(row, i + 1)?;
-    if 0 <= near && near <= far && far <= 2_000_000_000 {
+    if 0 <= near && near <= far && far <= GREATEST_RADIUS {
         Ok((near, far))
     } else {
         Err(Stop::Because(Cause::Range))

@@ -3,6 +3,7 @@
 ghost use Rattle.std.specs.Prelude.{◌≡◌, ◌≤◌, true, IfOk};
 ghost use Rattle.csv.specs.Records.{fields_of};
 ghost use Rattle.log_spelling.specs.Names.{is_name};
+ghost use Rattle.tube_spec.specs.Limits.{most_ticks};
 ghost use Rattle.log_fields.specs.Fields.{IsRadius};
 ghost use Rattle.log_fields.specs.Kinds.{revisit_fields, settle_fields, text_fields};
 ghost use Rattle.log_fields.specs.Steps.{Gives};
@@ -38,7 +39,7 @@ pub fn revisit_fields(row: &ByteRecord) -> Result<RevisitFields<'_>, Stop>
     ensures spelled_y { IfOk result (λ f. is_name f.y.now ≡ true) }
     ensures within { IfOk result (λ f. IsRadius f.radius) }
     ensures some_gap { IfOk result (λ f. 1 ≤ f.gap) }
-    ensures small_gap { IfOk result (λ f. f.gap ≤ 100000) }
+    ensures small_gap { IfOk result (λ f. f.gap ≤ most_ticks) }
 {
     ensure(row.len() == 5, Cause::Fields)?;
     let x = name_at(row, 1)?;

@@ -2,6 +2,7 @@
 #![tactic(auto)]
 
 ghost use Rattle.std.specs.Prelude.{◌≡◌, ◌≤◌, length, Err, IfErr, IfOk};
+ghost use Rattle.tube_spec.specs.Limits.{most_bytes};
 ghost use Rattle.log_round_trip.specs.Laws.{IsTextOf, PrintedIsRead};
 ghost use Rattle.mission_log.specs.Log.{IsLog, log_of};
 
@@ -24,7 +25,7 @@ pub fn printed_is_read()
 /// and is refused as `read_log` refuses it.
 pub fn canonical(alloc: Global, log: &[u8]) -> Result<Vec<u8>, LogFault>
     ensures text { IfOk result (λ text. IsTextOf text.items (log_of log.now)) }
-    ensures same { IfOk result (λ text. length text.items ≤ 67108864 → log_of text.items ≡ log_of log.now) }
+    ensures same { IfOk result (λ text. length text.items ≤ most_bytes → log_of text.items ≡ log_of log.now) }
     ensures refused { IfErr result (λ fault. IsLog (Err fault) (log_of log.now)) }
 {
     printed_is_read();

@@ -1,5 +1,6 @@
 -- The room that records take: cells, and read entries.
 use Rattle.std.specs.Prelude.{ℕ, ◌+◌, ◌-◌, ◌*◌, ◌&&◌, nat_le, Bool, List, [], ◌∷◌, ◌++◌, Option, Some, None, is_some, length, max, pos, if◌then◌else◌}
+use Rattle.tube_spec.specs.Limits.{most_cells, most_signals, most_variables}
 use Rattle.tube_spec.specs.Span.{Span, point}
 use Rattle.slice_gates.specs.Near.{near_of}
 use Rattle.slice_gates.specs.declared.near.Near.{Near}
@@ -79,4 +80,4 @@ feet_of cuts items = feet_from cuts [] items
 
 -- at most 64 signals, 200,000 variables and 2,000,000 cells
 abbrev pub are_few : List ℕ → ℕ → ℕ → Bool
-are_few cuts signals variables = nat_le signals 64 && (nat_le variables 200000 && nat_le (cells_of cuts signals variables) 2000000)
+are_few cuts signals variables = nat_le signals most_signals && (nat_le variables most_variables && nat_le (cells_of cuts signals variables) most_cells)

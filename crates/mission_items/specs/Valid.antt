@@ -2,6 +2,7 @@
 use Rattle.std.specs.Prelude.{◌≡◌, ◌≢◌, ℕ, ◌+◌, ◌<◌, ◌≤◌, ◌⊎◌, ◌==◌, if◌then◌else◌, Bool, true, false, List, [], ◌∷◌, ◌++◌, Option, Some, None, IsSome, All, length, map, take, drop, count_by, ℤ, pos, ◌≤ℤ◌}
 use Rattle.std.specs.List.{list_all}
 use Rattle.tube_spec.specs.Grid.{IsGrid, last_tick}
+use Rattle.tube_spec.specs.Limits.{greatest_bound, greatest_radius, most_cells, most_reads, most_records, most_signals, most_ticks, most_variables}
 use Rattle.tube_spec.specs.Span.{Span, IsProper, IsBounded, meet_of, width_of}
 use Rattle.tube_store.specs.declared.SignalId.{SignalId}
 use Rattle.tube_store.specs.declared.VarId.{VarId}
@@ -28,7 +29,7 @@ use Rattle.mission_items.specs.declared.mission.Mission.{Mission}
 
 -- a range has a number and lies from -500,000,000 to 500,000,000
 abbrev pub IsRange : Span → Type 0
-IsRange range = IsProper range × IsBounded 500000000 range
+IsRange range = IsProper range × IsBounded greatest_bound range
 
 -- a name is spelled as one and is declared now
 abbrev pub IsNew : List Item → List ℕ → Type 0
@@ -56,7 +57,7 @@ IsTime end before t = IsNarrow end (variable_range before t.0)
 
 -- the radii of a ring are from 0 to 2,000,000,000, in order
 abbrev pub AreRadii : ℤ → ℤ → Type 0
-AreRadii near far = (pos 0 ≤ℤ near) × (near ≤ℤ far) × (far ≤ℤ pos 2000000000)
+AreRadii near far = (pos 0 ≤ℤ near) × (near ≤ℤ far) × (far ≤ℤ pos greatest_radius)
 
 -- ticks in order, on a clock that ends at a tick
 abbrev pub AreTicks : ℕ → ℕ → ℕ → Type 0
@@ -107,7 +108,7 @@ pub record IsQuery (version end : ℕ) (before : List Item) (q : Query) : Type 0
   pub signals : AreSignals before q.x q.y
   pub radius : AreRadii (pos 0) q.radius
   pub some_gap : 1 ≤ q.gap
-  pub small_gap : q.gap ≤ 100000
+  pub small_gap : q.gap ≤ most_ticks
   pub norm : q.norm ≡ norm_in version
   pub few : revisits_in before < 16
   pub plane : end ≤ 20000
@@ -162,20 +163,20 @@ AreRight version end items = AreRightFrom version end [] items
 pub record IsClock (version ticks width : ℕ) (cuts : List ℕ) (items : List Item) : Type 0 where
   pub known_version : (version ≡ 1) ⊎ (version ≡ 2)
   pub some_tick : 1 ≤ ticks
-  pub few_ticks : ticks ≤ 100000
+  pub few_ticks : ticks ≤ most_ticks
   pub some_width : 1 ≤ width
-  pub small_width : width ≤ 100000
+  pub small_width : width ≤ most_ticks
   pub boundaries : cuts ≡ boundaries ticks width items
   pub grid : IsGrid cuts
   pub ends : last_tick cuts ≡ ticks
 
 -- the records fit: their number, signals, variables, cells and read entries
 pub record AreFew (m : Mission) : Type 0 where
-  pub records : length m.items ≤ 1000000
-  pub signals : signals_in m.items ≤ 64
-  pub variables : variables_in m.items ≤ 200000
-  pub cells : cells_of m.cuts (signals_in m.items) (variables_in m.items) ≤ 2000000
-  pub feet : feet_of m.cuts m.items ≤ 20000000
+  pub records : length m.items ≤ most_records
+  pub signals : signals_in m.items ≤ most_signals
+  pub variables : variables_in m.items ≤ most_variables
+  pub cells : cells_of m.cuts (signals_in m.items) (variables_in m.items) ≤ most_cells
+  pub feet : feet_of m.cuts m.items ≤ most_reads
 
 -- an accepted mission
 pub record IsMission (m : Mission) : Type 0 where

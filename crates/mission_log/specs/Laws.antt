@@ -1,6 +1,7 @@
 -- What is true of every log.
 use Rattle.std.specs.Prelude.{◌≡◌, ℕ, suc, ◌≤◌, ◌++◌, ◌∷◌, List, Ok, Err, length, take, drop}
 use Rattle.csv_rows.specs.Records.{Record, records_of}
+use Rattle.tube_spec.specs.Limits.{most_bytes}
 use Rattle.mission_items.specs.declared.mission.Mission.{Mission}
 use Rattle.mission_log.specs.Log.{log_from, log_of, nothing_yet, step}
 use Rattle.log_fields.specs.declared.fault.Cause.{Cause}
@@ -8,7 +9,7 @@ use Rattle.log_fields.specs.declared.fault.Cause.{Cause}
 -- a log that is refused at a record is refused the same whatever records follow, within the longest log
 abbrev pub RefusalStands : Type 0
 RefusalStands =
-    (log longer : List ℕ) (more : List Record) (number : ℕ) (cause : Cause) → length longer ≤ 67108864
+    (log longer : List ℕ) (more : List Record) (number : ℕ) (cause : Cause) → length longer ≤ most_bytes
     → records_of longer ≡ records_of log ++ more
     → log_of log ≡ Err (suc number, cause) → log_of longer ≡ Err (suc number, cause)
 

@@ -6,6 +6,7 @@ use Rattle.log_spelling.specs.Blanks.{is_note}
 use Rattle.log_spelling.specs.Kinds.{kind_of}
 use Rattle.log_spelling.specs.declared.kind.Kind.{Kind}
 use Rattle.log_spelling.specs.declared.kind.Kind.TheVariants as kind
+use Rattle.tube_spec.specs.Limits.{most_bytes}
 use Rattle.tube_store.specs.declared.SignalId.{SignalId}
 use Rattle.log_fields.specs.Fields.{field, tick_of}
 use Rattle.log_fields.specs.Kinds.{at_fields, beacon_fields, bound_fields, constell_fields, cut_fields, declared_fields, delay_fields, deriv_fields, eval_fields, mission_fields, ping_fields, range3_fields, range_fields, revisit_fields, settle_fields, text_fields}
@@ -291,7 +292,7 @@ log_by rs = if list_all is_note_record rs then Err (0, cause.NoMission) else log
 
 -- the log of these bytes
 abbrev pub log_of : List ℕ → Result Mission (ℕ × Cause)
-log_of bytes = if nat_lt 67108864 (length bytes) then Err (0, cause.LogTooLong) else log_by (records_of bytes)
+log_of bytes = if nat_lt most_bytes (length bytes) then Err (0, cause.LogTooLong) else log_by (records_of bytes)
 
 -- what a reader of logs answers is the log, unless memory was refused
 abbrev pub IsLog : Result Mission LogFault → Result Mission (ℕ × Cause) → Type 0

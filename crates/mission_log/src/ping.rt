@@ -97,7 +97,7 @@ fn ping_foot(
     requires order { ticks.0 ≤ ticks.1 }
     ensures kept { draft.new ≡ draft.old }
     ensures value { IfOk result (λ foot. foot ≡ evaluated draft.old.cuts draft.old.items place.0.0 (ticks_from ticks.0 ticks.1) + evaluated draft.old.cuts draft.old.items place.1.0 (ticks_from ticks.0 ticks.1) + 4 + mark_foot draft.old.items beacon) }
-    ensures small { IfOk result (λ foot. foot ≤ 2000000) }
+    ensures small { IfOk result (λ foot. foot ≤ 1600000) }
 {
     let (x, y) = place;
     let (first, last) = ticks;

@@ -18,16 +18,17 @@ use log_spelling::is_note;
 use mission_items::Mission;
 use std::alloc::Global;
 use tube_io::NoMemory;
+use tube_limits::MOST_BYTES;
 
 /// Reads a log. Where it is refused, the earliest record that has a cause is told by its number, from 1
 /// on, with the lowest of its causes. Number 0 comes first: a log of more than 67,108,864 bytes is too
-/// long, and one with no record but notes has no mission. The time is linear in the number of bytes, and
-/// each record takes the memory of one `Item` and of its formula.
+/// long, and one with no record but notes has no mission. Of time and memory nothing is promised; as
+/// measured, the time grows as the bytes do.
 pub fn read_log(alloc: Global, bytes: &[u8]) -> Result<Mission, LogFault>
     ensures log { IsLog result (log_of bytes.now) }
     ensures valid { IfOk result IsMission }
 {
-    if bytes.len() > 67_108_864 {
+    if bytes.len() > MOST_BYTES {
         return Err(LogFault::Bad {
             number: 0,
             cause: Cause::LogTooLong,

@@ -14,10 +14,8 @@ use mission_items::Item;
 use std::alloc::Global;
 use std::marker::Model;
 use tube_io::NoMemory;
+use tube_limits::MOST_SIGNALS;
 use tube_store::{SignalId, VarId};
-
-/// The most signals of a mission.
-const MOST_SIGNALS: usize = 64;
 
 /// A table of what the records so far make: the declared ranges of signals and variables, the rates, and the beacons. It is carried from
 /// section to section beside the net.

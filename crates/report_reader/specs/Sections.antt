@@ -1,6 +1,7 @@
 -- The text of a section, from what it says.
 use Rattle.std.specs.Prelude.{◌≡◌, ℕ, ◌≤◌, List, [], ◌∷◌, ◌++◌, true, flat_map, map}
 use Rattle.std.specs.List.{AllByRecursion}
+use Rattle.tube_spec.specs.Limits.{most_ticks}
 use Rattle.log_spelling.specs.Names.{is_name}
 use Rattle.tube_report.specs.Lines.{first_line, last_line, signal_line, gate_line, slice_line, var_line}
 use Rattle.report_reader.specs.Words.{IsInterval, IsReference}
@@ -12,8 +13,8 @@ use Rattle.report_reader.specs.declared.section.Section.{Section}
 -- names are spelled as names, ticks are at most 100,000, and bounds make an interval
 abbrev pub IsLine : Line → Type 0
 IsLine (line.Signal name) = is_name name ≡ true
-IsLine (line.Gate tick range) = (tick ≤ 100000) × IsInterval range
-IsLine (line.Slice from to range) = (from ≤ 100000) × (to ≤ 100000) × IsInterval range
+IsLine (line.Gate tick range) = (tick ≤ most_ticks) × IsInterval range
+IsLine (line.Slice from to range) = (from ≤ most_ticks) × (to ≤ most_ticks) × IsInterval range
 IsLine (line.Var name range) = IsReference name × IsInterval range
 
 -- the text of a line, its end included

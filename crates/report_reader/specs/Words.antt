@@ -2,6 +2,7 @@
 use Rattle.std.specs.Prelude.{◌≡◌, ◌≢◌, ℕ, ◌≤◌, ◌==◌, true, false, List, ◌∷◌, ◌++◌, codes, decimal, Option, Some, None, ◌⊎◌}
 use Rattle.std.specs.List.{list_any}
 use Rattle.std.specs.Fmt.{signed_decimal}
+use Rattle.tube_spec.specs.Limits.{interval_bound, most_ticks}
 use Rattle.tube_spec.specs.Span.{Span, IsProper, IsBounded}
 use Rattle.log_spelling.specs.Names.{is_name}
 use Rattle.report_reader.specs.declared.lines.Ticked.{Ticked}
@@ -29,7 +30,7 @@ IsReference word = (is_name word ≡ true) ⊎ ((beacon axis : List ℕ) × (is_
 
 -- bounds that make an interval
 abbrev pub IsInterval : Span → Type 0
-IsInterval range = IsProper range × IsBounded 4000000000000000000 range
+IsInterval range = IsProper range × IsBounded interval_bound range
 
 -- the two bounds of a range
 abbrev pub range_text : Span → List ℕ
@@ -40,4 +41,4 @@ abbrev pub ticked_text : Ticked → List ℕ
 ticked_text gate = decimal gate.tick ++ 32 ∷ range_text gate.range
 
 abbrev pub IsTicked : Ticked → Type 0
-IsTicked gate = (gate.tick ≤ 100000) × IsInterval gate.range
+IsTicked gate = (gate.tick ≤ most_ticks) × IsInterval gate.range

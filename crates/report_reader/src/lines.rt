@@ -9,13 +9,12 @@ use crate::section::Line;
 use crate::words::{count_up_to, cut, is_reference, range_of};
 use int_interval::Interval;
 use log_spelling::is_name;
+use slice_gates::MOST_TICKS;
 use std::alloc::Global;
 use tube_io::{NoMemory, Text};
 use tube_report::Verdict;
 
 const MOST_SECTIONS: u64 = 1_000_000;
-
-const MOST_TICKS: u64 = 100_000;
 
 // Whether two words are one.
 fn same(word: &[u8], other: &[u8]) -> bool
@@ -108,7 +107,7 @@ fn ticked_of(text: &[u8]) -> Option<Ticked>
     let Some((tick, range)) = cut(text, b' ') else {
         return None;
     };
-    let Some(tick) = count_up_to(tick, MOST_TICKS) else {
+    let Some(tick) = count_up_to(tick, u64::from(MOST_TICKS)) else {
         return None;
     };
     let Some(range) = range_of(range) else {
@@ -148,7 +147,7 @@ fn slice_of(rest: &[u8]) -> Option<Line>
     let Some((from, rest)) = cut(rest, b' ') else {
         return None;
     };
-    let Some(from) = count_up_to(from, MOST_TICKS) else {
+    let Some(from) = count_up_to(from, u64::from(MOST_TICKS)) else {
         return None;
     };
     let Some(end) = ticked_of(rest) else {

@@ -3,6 +3,7 @@
 ghost use Rattle.std.specs.Prelude.{◌≡◌, ◌≢◌, ◌+◌, ◌*◌, ◌≤◌, ◌<◌, ◌^◌, ◌↔◌, ◌∷◌, true, false, IfSome, IsTrue, MatchOption, decimal, length, slice_index, unsigned_abs};
 ghost use Rattle.std.specs.Fmt.{signed_decimal};
 ghost use Rattle.std.specs.List.{list_all};
+ghost use Rattle.tube_spec.specs.Limits.{interval_bound};
 ghost use Rattle.log_spelling.specs.Numbers.{digits_value, is_digit};
 ghost use Rattle.report_reader.specs.Words.{IsAxis, IsCut, IsInterval, IsReference, Lacks, Reads, range_text};
 
@@ -69,7 +70,7 @@ pub(crate) fn count_up_to(word: &[u8], most: u64) -> Option<u64>
 
 /// The number, at most [`BOUND`] in absolute value, that is printed so: digits with no leading zero, behind a `-` where it is negative.
 pub(crate) fn bound_of(word: &[u8]) -> Option<i64>
-    ensures { Reads signed_decimal (λ z. unsigned_abs z ≤ 4000000000000000000) word.now result }
+    ensures { Reads signed_decimal (λ z. unsigned_abs z ≤ interval_bound) word.now result }
 {
     match word {
         [b'-', digits @ ..] => negative_of(digits),
@@ -78,7 +79,7 @@ pub(crate) fn bound_of(word: &[u8]) -> Option<i64>
 }
 
 fn negative_of(digits: &[u8]) -> Option<i64>
-    ensures { Reads signed_decimal (λ z. unsigned_abs z ≤ 4000000000000000000) (45 ∷ digits.now) result }
+    ensures { Reads signed_decimal (λ z. unsigned_abs z ≤ interval_bound) (45 ∷ digits.now) result }
 {
     let Some(n) = count_up_to(digits, BOUND as u64) else {
         return None;
@@ -91,7 +92,7 @@ fn negative_of(digits: &[u8]) -> Option<i64>
 
 fn positive_of(word: &[u8]) -> Option<i64>
     requires { slice_index word.now 0 ≢ 45 }
-    ensures { Reads signed_decimal (λ z. unsigned_abs z ≤ 4000000000000000000) word.now result }
+    ensures { Reads signed_decimal (λ z. unsigned_abs z ≤ interval_bound) word.now result }
 {
     let Some(n) = count_up_to(word, BOUND as u64) else {
         return None;

@@ -3,6 +3,7 @@
 ghost use Rattle.std.specs.Prelude.{◌≡◌, ◌+◌, ◌-◌, ◌<◌, [], IsSome, flat_map, length, unwrap_or};
 ghost use Rattle.std.specs.List.{range_with_len};
 ghost use Rattle.tube_io.specs.Sends.{Sends};
+ghost use Rattle.tube_spec.specs.Limits.{greatest_bound};
 ghost use Rattle.tube_spec.specs.Span.{IsBounded, IsProper};
 ghost use Rattle.tube_spec.specs.Box.{cell_at};
 ghost use Rattle.tube_report.specs.Lines.{brief_line, gate_line, signal_line, slice_line};
@@ -97,7 +98,7 @@ pub(crate) fn held(store: &Store, c: CellId) -> Interval
     requires filled { IsSome store.now.box }
     ensures value { result ≡ cell_at (unwrap_or store.now.box []) c.0 }
     ensures proper { IsProper result }
-    ensures bounded { IsBounded 500000000 result }
+    ensures bounded { IsBounded greatest_bound result }
 {
     store.get(c)
 }
