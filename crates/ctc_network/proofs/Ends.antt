@@ -6,8 +6,8 @@ use Rattle.tube_spec.specs.Box.{IsBelowBox}
 use Rattle.tube_store.specs.State.{State}
 use Rattle.ctc_core.specs.Answers.{MatchRevised}
 use Rattle.ctc_core.specs.declared.Revised.{Revised}
-use Rattle.firing_cost.specs.Costs.{weighted_box, potential, lost_cost}
-use Rattle.firing_cost.proofs.Weights.{lost-left_box}
+use Rattle.cell_readers.specs.Costs.{weighted_box, potential, lost_cost}
+use Rattle.cell_readers.proofs.Weights.{lost-left_box}
 use Rattle.ctc_network.specs.Nets.{NetState, readers_of}
 
 -- Steps and potential together never rose, and after that each further step let one rest.

@@ -16,11 +16,11 @@ use Rattle.ctc_core.specs.declared.Revised.{Revised}
 use Rattle.ctc_core.specs.declared.Revised.TheVariants.{Same, Narrowed, Empty}
 use Rattle.ctc_core.proofs.Firing.{IsBox-of}
 use Rattle.cell_readers.specs.Entries.{Table, AreReaders}
-use Rattle.firing_cost.specs.Costs.{potential}
-use Rattle.firing_cost.specs.Waking.{AreWoken, AreAtRest}
-use Rattle.firing_cost.proofs.Counts.{mark-other}
-use Rattle.firing_cost.proofs.Kept.{drained}
-use Rattle.firing_cost.proofs.Steps.{step}
+use Rattle.cell_readers.specs.Costs.{potential}
+use Rattle.cell_readers.specs.Waking.{AreWoken, AreAtRest}
+use Rattle.cell_readers.proofs.Counts.{mark-other}
+use Rattle.cell_readers.proofs.Kept.{drained}
+use Rattle.cell_readers.proofs.Steps.{step}
 use Rattle.ctc_network.specs.Nets.{NetState, IsNet, IsDrained, IsSettlable, IsTableOf, IsKept, entries_of, readers_of, reads_by}
 use Rattle.ctc_network.specs.Noting.{Notes}
 use Rattle.ctc_network.specs.Settling.{Fires, IsWoken, IsNarrowedBy, NarrowerIn}

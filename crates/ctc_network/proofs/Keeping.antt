@@ -13,7 +13,7 @@ use Rattle.tube_spec.specs.Owner.{Owner, with_owner, declared_cells}
 use Rattle.tube_spec.proofs.Hulls.{owner-extends}
 use Rattle.tube_store.specs.State.{State, IsStore, state_with}
 use Rattle.cell_readers.specs.Entries.{Table, AreReaders}
-use Rattle.firing_cost.specs.Waking.{AreAtRest}
+use Rattle.cell_readers.specs.Waking.{AreAtRest}
 use Rattle.ctc_network.specs.Nets.{IsNet, IsDrained, IsSettlable, IsTableOf, IsKept, entries_of}
 use Rattle.ctc_network.proofs.Runs.{get-all}
 use Rattle.ctc_network.proofs.Waking.{sum-scopes}

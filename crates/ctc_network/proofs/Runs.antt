@@ -17,7 +17,7 @@ use Rattle.ctc_core.specs.declared.Revised.{Revised}
 use Rattle.ctc_core.specs.declared.Revised.TheVariants.{Same, Narrowed}
 use Rattle.ctc_core.proofs.Composing.{fixpoint-left, fixpoint-right}
 use Rattle.ctc_core.proofs.Firing.{IsBox-of}
-use Rattle.firing_cost.specs.Waking.{AreAtRest}
+use Rattle.cell_readers.specs.Waking.{AreAtRest}
 use Rattle.ctc_network.specs.Nets.{NetState, IsNet}
 use Rattle.ctc_network.specs.Settling.{IsNarrowedBy, SettlesAs}
 use Rattle.ctc_network.specs.declared.answers.Settled.TheVariants.{Fixpoint}

@@ -12,9 +12,9 @@ use Rattle.tube_spec.specs.Shape.{Shape}
 use Rattle.tube_store.specs.State.{State}
 use Rattle.ctc_core.specs.Revising.{IsNarrower, AddsNarrower, IfBoth}
 use Rattle.cell_readers.specs.Entries.{Table, AreReaders, WakesReaders, readers_at, reads_cell, is_reader}
-use Rattle.firing_cost.specs.Waking.{AreWoken}
-use Rattle.firing_cost.proofs.Counts.{mark-here, mark-other}
-use Rattle.firing_cost.proofs.Kept.{none-read}
+use Rattle.cell_readers.specs.Waking.{AreWoken}
+use Rattle.cell_readers.proofs.Counts.{mark-here, mark-other}
+use Rattle.cell_readers.proofs.Kept.{none-read}
 use Rattle.ctc_network.specs.Nets.{reads_by, IsTableOf}
 use Rattle.ctc_network.specs.Settling.{IsWoken, NarrowerIn, ReadsNarrower}
 

@@ -6,7 +6,7 @@ use Rattle.tube_spec.specs.Shape.{Shape}
 use Rattle.tube_spec.specs.Projection.{Projection}
 use Rattle.tube_store.specs.State.{State, IsStore, no_cells}
 use Rattle.cell_readers.specs.Entries.{Table, AreReaders, reads_cell}
-use Rattle.firing_cost.specs.Waking.{AreAtRest}
+use Rattle.cell_readers.specs.Waking.{AreAtRest}
 
 -- the store, the contractors under their numbers, and beside each whether it waits
 pub record NetState (C : Type 0) : Type 0 where

@@ -8,7 +8,7 @@ ghost use Rattle.tube_spec.specs.Owner.{SignalIn, VariableIn};
 ghost use Rattle.tube_spec.specs.Fixpoint.{IsFixpoint};
 ghost use Rattle.tube_store.specs.State.{State, state_with};
 ghost use Rattle.ctc_core.specs.Answers.{MatchRevised};
-ghost use Rattle.firing_cost.specs.Costs.{lost_cost, potential};
+ghost use Rattle.cell_readers.specs.Costs.{lost_cost, potential};
 ghost use Rattle.ctc_network.specs.Nets.{NetState, IsNet, IsSettlable, no_net, entries_of, readers_of};
 ghost use Rattle.ctc_network.specs.Settling.{Fires, IsWoken, IsNarrowedBy, SettlesAs, StillNarrows, contractors_at};
 

@@ -1,15 +1,21 @@
-//! Fires one contractor again and again, so that `bench/firings` can time a firing. The words are the contractor (`value`, `later` or
-//! `shift`), its size in ticks and how often it is fired. The program prints how many firings narrowed something.
+//! Fires one contractor again and again, so that `bench/firings` and `bench/expressions` can time a firing. The words are the contractor
+//! (`value`, `later`, `shift` or `relation`), its size and how often it is fired. The size of a relation is how many levels of sums,
+//! products and least values each side has: two make 16 nodes, four 64 and six 256; that of the others is in ticks. The program prints how
+//! many firings narrowed something.
 #![tactic(auto)]
 
+mod relation;
+
 ghost use Rattle.std.specs.Prelude.{◌≡◌, ◌<◌, IfSome};
+ghost use Rattle.tube_spec.specs.Limits.{greatest_bound};
 ghost use Rattle.tube_spec.specs.Span.{IsBounded};
 
 use any_ctc::AnyCtc;
-use ctc_core::Revised;
+use ctc_core::{Contractor, Revised};
 use ctc_delay::{DelayShift, DelayTo};
 use ctc_eval::EvalCtc;
 use ctc_network::{CtcId, Net};
+use expr_hc4::ExprCtc;
 use int_interval::Interval;
 use slice_gates::Grid;
 use std::alloc::Global;
@@ -19,13 +25,13 @@ use std::process::ExitCode;
 use std::rt::Env;
 use std::sync::ledger::{Blank, Ledger};
 use step_count::Steps;
-use tube_store::{SignalId, VarId};
+use tube_store::{GREATEST_BOUND, SignalId, VarId};
 
 // The bounds of a declared range.
 fn declared(lo: i64, hi: i64) -> Option<Interval>
-    ensures { IfSome result (IsBounded 500000000) }
+    ensures { IfSome result (IsBounded greatest_bound) }
 {
-    if lo < -500_000_000 || hi > 500_000_000 {
+    if lo < -GREATEST_BOUND || hi > GREATEST_BOUND {
         return None;
     }
     Interval::new(lo, hi)
@@ -60,7 +66,7 @@ fn add(net: &mut Net<AnyCtc>, word: &str, size: u32) -> Option<()> {
 }
 
 // Fires the net's contractor so many times, and counts the firings that narrowed something.
-fn fire_often<L: Ledger>(net: &mut Net<AnyCtc>, turns: u32, blank: Blank) -> u32
+fn fire_often<C: Contractor + Drop, L: Ledger>(net: &mut Net<C>, turns: u32, blank: Blank) -> u32
     requires name { blank.name ≡ L.name }
     requires parts { blank.parts ≡ L.parts }
     requires some { 0 < L.parts }
@@ -84,19 +90,32 @@ fn asked(rt: &(impl Env + AllocGlobal)) -> Option<(String, u32, u32)> {
     Some((word, size, turns))
 }
 
-// The net that the words ask for, and how often its contractor is fired.
-fn prepared(rt: &(impl Env + AllocGlobal)) -> Option<(Net<AnyCtc>, u32)> {
+// Fires a relation with terms of so many levels, so many times.
+fn fire_relation(alloc: Global, levels: u32, turns: u32) -> Option<u32> {
+    let mut net = relation::net_of(alloc, levels)?;
+    Some(fire_often::<ExprCtc, Brand>(&mut net, turns, Blank::new(1)))
+}
+
+// Fires the contractor that a word names, so many times.
+fn fire_named(alloc: Global, word: &str, size: u32, turns: u32) -> Option<u32> {
+    let mut net = net_of(alloc, size)?;
+    add(&mut net, word, size)?;
+    Some(fire_often::<AnyCtc, Brand>(&mut net, turns, Blank::new(1)))
+}
+
+// How many of the firings that the words ask for narrowed something.
+fn fired(rt: &(impl Env + AllocGlobal)) -> Option<u32> {
     let (word, size, turns) = asked(rt)?;
-    let mut net = net_of(rt.alloc(), size)?;
-    add(&mut net, word.as_str(), size)?;
-    Some((net, turns))
+    if word.as_str() == "relation" {
+        return fire_relation(rt.alloc(), size, turns);
+    }
+    fire_named(rt.alloc(), word.as_str(), size, turns)
 }
 
 fn main(rt: HostRuntime) -> ExitCode {
-    let Some((mut net, turns)) = prepared(&rt) else {
+    let Some(narrowed) = fired(&rt) else {
         return ExitCode::FAILURE;
     };
-    let narrowed = fire_often::<Brand>(&mut net, turns, Blank::new(1));
     match println!(rt; "{narrowed}") {
         Ok(()) => ExitCode::SUCCESS,
         Err(_) => ExitCode::FAILURE,

@@ -2,7 +2,7 @@ use Rattle.std.proofs.Common.{◌≡◌, ◌<◌, ◌+◌, ◌≤◌, Some, true
 use Rattle.std.proofs.lemmas.Option.{slice_get_within}
 use Rattle.ctc_core.specs.Answers.{MatchRevised}
 use Rattle.ctc_core.specs.declared.Revised.{Revised}
-use Rattle.firing_cost.specs.Costs.{potential}
+use Rattle.cell_readers.specs.Costs.{potential}
 use Rattle.ctc_network.specs.Nets.{NetState, IsNet, readers_of}
 use Rattle.ctc_network.specs.Settling.{IsNarrowedBy}
 use Rattle.ctc_network.proofs.Firing.{noted-net, noted-narrowed, noted-falls, noted-same, noted-says, kept-table, quiet-taken}

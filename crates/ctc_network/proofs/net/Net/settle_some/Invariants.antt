@@ -1,7 +1,7 @@
 use Rattle.std.proofs.Common.{◌≡◌, ◌+◌, ◌≤◌, IsSome, flat_map}
 use Rattle.ctc_network.specs.Nets.{readers_of}
 use Rattle.ctc_network.specs.Settling.{IsNarrowedBy}
-use Rattle.firing_cost.specs.Costs.{potential}
+use Rattle.cell_readers.specs.Costs.{potential}
 use Rattle.ctc_network.proofs.net.Net.settle_some.Given as goal
 
 -- no common fixpoint was lost, and steps and potential together never rose

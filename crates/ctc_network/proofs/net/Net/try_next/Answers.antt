@@ -1,6 +1,6 @@
 use Rattle.std.proofs.Common.{◌≡◌, ◌<◌, Some, List, Bool, true, length, sym, ap, subst, ◌∙◌, slice_get, set, count_by, arith}
 use Rattle.std.proofs.lemmas.Option.{slice_get_within}
-use Rattle.firing_cost.proofs.Counts.{count-rest}
+use Rattle.cell_readers.proofs.Counts.{count-rest}
 use Rattle.ctc_network.specs.Nets.{NetState, IsKept}
 use Rattle.ctc_network.proofs.Keeping.{kept-rested}
 use Rattle.ctc_network.proofs.Waking.{set-back, inside-there}

@@ -1,6 +1,6 @@
 use Rattle.std.proofs.Common.{Some}
-use Rattle.firing_cost.proofs.Kept.{fixpoint-kept, drain-start, drain-step, drain-end, get-all}
-use Rattle.firing_cost.proofs.kept_law.Goals as goal
+use Rattle.cell_readers.proofs.Kept.{fixpoint-kept, drain-start, drain-step, drain-end, get-all}
+use Rattle.cell_readers.proofs.laws.kept_law.Goals as goal
 
 pub returns-clause-kept : goal.returns-clause-kept
 returns-clause-kept g c k s xs ys fits box low quiet fix =

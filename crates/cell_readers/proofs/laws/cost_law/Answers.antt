@@ -1,6 +1,6 @@
-use Rattle.firing_cost.proofs.Weights.{lost-left_box}
-use Rattle.firing_cost.proofs.Steps.{run-bound}
-use Rattle.firing_cost.proofs.cost_law.Goals as goal
+use Rattle.cell_readers.proofs.Weights.{lost-left_box}
+use Rattle.cell_readers.proofs.Steps.{run-bound}
+use Rattle.cell_readers.proofs.laws.cost_law.Goals as goal
 
 pub returns-clause-whole : goal.returns-clause-whole
 returns-clause-whole c r new old low = lost-left_box r new old low

@@ -10,10 +10,10 @@ use Rattle.ctc_core.specs.Revising.{IfBoth, IsNarrower, AddsNarrower}
 use Rattle.ctc_core.specs.Answers.{Revises, MatchRevised}
 use Rattle.ctc_core.specs.declared.Revised.{Revised}
 use Rattle.ctc_core.specs.declared.Revised.TheVariants.{Same, Narrowed, Empty}
-use Rattle.firing_cost.specs.Costs.{weighted, weighted_box, potential, lost_cost}
-use Rattle.firing_cost.specs.Waking.{readers, AreWoken}
-use Rattle.firing_cost.proofs.Weights.{weighted-falls, lost-left_box}
-use Rattle.firing_cost.proofs.Counts.{count-rest, union}
+use Rattle.cell_readers.specs.Costs.{weighted, weighted_box, potential, lost_cost}
+use Rattle.cell_readers.specs.Waking.{readers, AreWoken}
+use Rattle.cell_readers.proofs.Weights.{weighted-falls, lost-left_box}
+use Rattle.cell_readers.proofs.Counts.{count-rest, union}
 
 ones-and : (r : ℕ → ℕ) (cells : List ℕ) → sum_by (λ k. 1 + r k) cells ≡ length cells + sum_by r cells
 ones-and r [] = refl

@@ -1,9 +1,8 @@
-//! What settling may cost, on lists and boxes: laws that a network's loop cites, with no code that runs.
+//! What settling may cost, on lists and boxes: laws that a network's loop cites.
 //!
 //! A network fires those of its contractors that wait, one at a time, and wakes the readers of the cells that became narrower. The potential
 //! is how many wait, and the width of each cell times one more than the contractors that read it. Each firing lowers it by one at least:
 //! one that left the box rests, and one that narrowed cells lowers their widths. So it bounds the steps of a run, and shows that it ends.
-#![tactic(auto)]
 
 ghost use Rattle.std.specs.Prelude.{◌≡◌, ◌≢◌, ◌+◌, ◌≤◌, ◌<◌, ℕ, List, [], ◌∷◌, Option, Some, Bool, true, false, All, Contains, IsSome, length, sum_by, count_by, nat_eq, slice_get, slice_set};
 ghost use Rattle.std.specs.List.{IsDistinct};
@@ -16,8 +15,8 @@ ghost use Rattle.tube_store.specs.State.{State};
 ghost use Rattle.ctc_core.specs.Revising.{IsNarrower};
 ghost use Rattle.ctc_core.specs.Answers.{Revises, MatchRevised};
 ghost use Rattle.ctc_core.specs.declared.Revised.{Revised};
-ghost use Rattle.firing_cost.specs.Costs.{weighted, weighted_box, lost_cost, potential};
-ghost use Rattle.firing_cost.specs.Waking.{readers, AreWoken, AreAtRest, IsDraining};
+ghost use Rattle.cell_readers.specs.Costs.{weighted, weighted_box, lost_cost, potential};
+ghost use Rattle.cell_readers.specs.Waking.{readers, AreWoken, AreAtRest, IsDraining};
 
 use ctc_core::Contractor;
 

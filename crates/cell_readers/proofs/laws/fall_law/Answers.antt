@@ -1,5 +1,5 @@
-use Rattle.firing_cost.proofs.Weights.{weighted-falls}
-use Rattle.firing_cost.proofs.fall_law.Goals as goal
+use Rattle.cell_readers.proofs.Weights.{weighted-falls}
+use Rattle.cell_readers.proofs.laws.fall_law.Goals as goal
 
 pub returns : goal.returns
 returns c r xs ys cells low once narrower = weighted-falls r xs ys cells low once narrower

@@ -14,7 +14,7 @@ use Rattle.tube_spec.proofs.Boxes.{cell-set}
 use Rattle.tube_spec.proofs.Spans.{IsWithin-refl}
 use Rattle.tube_spec.proofs.Widths.{width-le}
 use Rattle.ctc_core.specs.Revising.{IsNarrower}
-use Rattle.firing_cost.specs.Costs.{weighted, weighted_box, lost_widths, lost_cost}
+use Rattle.cell_readers.specs.Costs.{weighted, weighted_box, lost_widths, lost_cost}
 
 -- sums of products, with each product as a variable
 swap-heads : (a b w : ℕ) → (b + w) + a ≡ (a + w) + b

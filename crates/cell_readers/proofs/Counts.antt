@@ -4,7 +4,7 @@ use Rattle.std.proofs.lemmas.Bool.{cases_eq}
 use Rattle.std.proofs.lemmas.List.Sums.{sum_by-cons, sum_by-set}
 use Rattle.std.proofs.lemmas.Option.{get_or_from_slice_get, slice_get_within}
 use Rattle.std.specs.List.{list_any}
-use Rattle.firing_cost.specs.Waking.{readers, AreWoken}
+use Rattle.cell_readers.specs.Waking.{readers, AreWoken}
 
 -- one that waited rests
 pub count-rest : (ws : List Bool) (k : ℕ) → slice_get ws k ≡ Some true → count_by (λ w. w) (set ws k false) + 1 ≡ count_by (λ w. w) ws

@@ -10,7 +10,7 @@ use Rattle.tube_spec.specs.Projection.{Projection, IsStable, ReadsOnly}
 use Rattle.tube_spec.specs.Fixpoint.{IsFixpoint}
 use Rattle.tube_spec.proofs.Spans.{same_span, IsUnder-within}
 use Rattle.ctc_core.specs.Revising.{IsNarrower}
-use Rattle.firing_cost.specs.Waking.{AreWoken, AreAtRest, IsDraining}
+use Rattle.cell_readers.specs.Waking.{AreWoken, AreAtRest, IsDraining}
 
 natural_is : (x : ℤ) → pos 0 ≤ℤ x → pos (natural x) ≡ x
 natural_is (pos n) h = refl

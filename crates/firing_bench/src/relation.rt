@@ -1,29 +1,19 @@
-//! Fires a relation again and again, so that `bench/expressions` can time a firing. The words are how many levels of sums, products and
-//! least values each side has, and how often the relation is fired: two levels make 16 nodes, four 64 and six 256. The program prints how
-//! many firings narrowed something.
-#![tactic(auto)]
+//! A relation over one variable, as large as its levels ask: what `bench/expressions` times.
 
-ghost use Rattle.std.specs.Prelude.{◌≡◌, ◌+◌, ◌<◌, ◌≤◌, IsTrue, IfSome, OnSome, vec_len};
+ghost use Rattle.std.specs.Prelude.{◌≡◌, ◌+◌, ◌≤◌, IsTrue, IfSome, OnSome, vec_len};
 ghost use Rattle.expr_tree.specs.Trees.{relation_of, tree_of};
 ghost use Rattle.expr_tree.specs.Measures.{relation_nodes};
 ghost use Rattle.expr_values.specs.Expressions.{leaves};
 ghost use Rattle.expr_hc4.specs.Places.{ExprFits};
 
-use ctc_core::Revised;
-use ctc_network::{CtcId, Net};
+use ctc_network::Net;
 use expr_hc4::{ExprCtc, Flat, Leaf, Place};
 use expr_text::parse;
 use expr_tree::{Rel, Term};
 use int_interval::Interval;
 use slice_gates::Grid;
 use std::alloc::Global;
-use std::env;
-use std::marker::Brand;
-use std::process::ExitCode;
 use std::rc::Rc;
-use std::rt::Env;
-use std::sync::ledger::{Blank, Ledger};
-use step_count::Steps;
 use tube_store::{Store, VarId};
 
 // A term of two equal ones: their sum, product or least value, by the level.
@@ -88,8 +78,12 @@ fn are_variables(store: &Store, leaves: &[Leaf]) -> bool
     })
 }
 
-// A network of one variable, from -1 to 1, and the relation.
-fn net_of(alloc: Global, levels: u32) -> Option<Net<ExprCtc>> {
+/// A network of one variable, from -1 to 1, and a relation with at most six levels of terms; none where there would be more levels, or
+/// memory runs out.
+pub(crate) fn net_of(alloc: Global, levels: u32) -> Option<Net<ExprCtc>> {
+    if levels > 6 {
+        return None;
+    }
     let rel = relation(alloc, &text_of(alloc, levels)?)?;
     let mut leaves = Vec::new(alloc);
     bind(&rel.left, &mut leaves)?;
@@ -103,48 +97,4 @@ fn net_of(alloc: Global, levels: u32) -> Option<Net<ExprCtc>> {
     net.add(ExprCtc::new(Rc::new(alloc, flat).ok()?, Place::Once))
         .ok()?;
     Some(net)
-}
-
-// Fires the net's contractor so many times, and counts the firings that narrowed something.
-fn fire_often<L: Ledger>(net: &mut Net<ExprCtc>, turns: u32, blank: Blank) -> u32
-    requires name { blank.name ≡ L.name }
-    requires parts { blank.parts ≡ L.parts }
-    requires some { 0 < L.parts }
-{
-    let mut steps = Steps::<L>::new(blank);
-    let mut narrowed: u32 = 0;
-    for _ in 0..turns {
-        if net.len() > 0 && net.fire(CtcId(0), &mut steps) == Revised::Narrowed {
-            narrowed = narrowed.saturating_add(1);
-        }
-    }
-    narrowed
-}
-
-// What the words ask for: the levels and how often the relation is fired.
-fn asked(rt: &(impl Env + AllocGlobal)) -> Option<(u32, u32)> {
-    let mut words = env::args(rt).ok()?.skip(1);
-    let levels = words.next()?.as_str().parse().ok()?;
-    let turns = words.next()?.as_str().parse().ok()?;
-    Some((levels, turns))
-}
-
-// The net that the words ask for, and how often its contractor is fired.
-fn prepared(rt: &(impl Env + AllocGlobal)) -> Option<(Net<ExprCtc>, u32)> {
-    let (levels, turns) = asked(rt)?;
-    if levels > 6 {
-        return None;
-    }
-    Some((net_of(rt.alloc(), levels)?, turns))
-}
-
-fn main(rt: HostRuntime) -> ExitCode {
-    let Some((mut net, turns)) = prepared(&rt) else {
-        return ExitCode::FAILURE;
-    };
-    let narrowed = fire_often::<Brand>(&mut net, turns, Blank::new(1));
-    match println!(rt; "{narrowed}") {
-        Ok(()) => ExitCode::SUCCESS,
-        Err(_) => ExitCode::FAILURE,
-    }
 }
