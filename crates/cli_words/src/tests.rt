@@ -2,7 +2,7 @@
 
 use super::*;
 use std::alloc::Global;
-use tube_io::NoMemory;
+use tube_io::{NoMemory, SureSink};
 
 const GREATEST: u64 = 1_000_000_000_000_000_000;
 
@@ -87,4 +87,13 @@ fn refused_lines(rt: HostRuntime) -> Result<(), NoMemory> {
         assert_eq!(rt; asked(rt.alloc(), line)?, None, "{line}");
     }
     Ok(())
+}
+
+#[test]
+fn line_of_usage(rt: HostRuntime) {
+    let mut sink = SureSink::<100>::new();
+    assert_eq!(rt; write_usage(&mut sink), Ok(()));
+    let want =
+        b"usage: codac_cli solve|loops|demo [--budget N] [--order fifo|lifo|rank] [--brief] [--seed N]\n";
+    assert_eq!(rt; sink.bytes(), want.as_slice());
 }

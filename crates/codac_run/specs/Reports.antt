@@ -15,7 +15,7 @@ use Rattle.mission_loops.specs.Texts.{findings_text, last_told}
 use Rattle.mission_net.specs.Building.{IsNetOf, IsSpentAs}
 use Rattle.mission_net.specs.Records.{shape_by}
 use Rattle.any_ctc.specs.declared.AnyCtc.{AnyCtc}
-use Rattle.tube_report.specs.Causes.{usage_line}
+use Rattle.cli_words.specs.Usage.{usage_line}
 use Rattle.section_report.specs.Sections.{Section, items_of, AreSections, AreSectionsTo, AreUnspent, AreAll}
 use Rattle.section_report.specs.Texts.{verdict_of, report_text}
 use Rattle.tube_report.specs.declared.section.Verdict.{Verdict}

@@ -3,13 +3,15 @@
 ghost use Rattle.std.specs.Prelude.{◌≡◌, ◌≤◌, ◌⊎◌, ℕ, List, IsErr};
 ghost use Rattle.tube_io.specs.Causes.{Rose};
 ghost use Rattle.tube_io.specs.Sends.{Sends};
-ghost use Rattle.tube_report.specs.Causes.{fault_line, usage_line};
+ghost use Rattle.cli_words.specs.Usage.{usage_line};
+ghost use Rattle.tube_report.specs.Causes.{fault_line};
 ghost use Rattle.codac_run.specs.Reports.{Writes, IsBare};
 
 use crate::ended::{Ended, Status};
+use cli_words::write_usage;
 use log_fields::Cause;
 use tube_io::{Flushed, Sink, WriteFault};
-use tube_report::{write_fault, write_usage};
+use tube_report::write_fault;
 
 /// Flushes what was written, and answers the status, or that a write failed.
 pub(crate) fn finish<K: Sink>(

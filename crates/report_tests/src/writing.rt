@@ -1,4 +1,4 @@
-//! The texts of a small mission, of refused logs and of wrong words.
+//! The texts of a small mission and of refused logs.
 
 ghost use Rattle.std.specs.Prelude.{◌≡◌, ◌↔◌, ◌≤◌, ◌≤ℤ◌, IfOk, IsNone, length, negsuc, pos, take};
 ghost use Rattle.mission_items.specs.Made.{signals_in, variables_in};
@@ -181,9 +181,4 @@ fn refusals(rt: HostRuntime) {
         assert_eq!(rt; write_fault(number, cause, &mut sink), Ok(()));
         assert_eq!(rt; sink.bytes(), want);
     }
-    let usage =
-        b"usage: codac_cli solve|loops|demo [--budget N] [--order fifo|lifo|rank] [--brief] [--seed N]\n";
-    let mut sink = SureSink::<100>::new();
-    assert_eq!(rt; write_usage(&mut sink), Ok(()));
-    assert_eq!(rt; sink.bytes(), usage.as_slice());
 }

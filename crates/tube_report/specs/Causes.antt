@@ -1,4 +1,4 @@
--- What is written where there is no report: why a log is refused, or how the program is called.
+-- What is written where there is no report: why a log is refused.
 use Rattle.std.specs.Prelude.{ℕ, List, [], ◌∷◌, codes, decimal}
 use Rattle.log_fields.specs.declared.fault.Cause.{Cause}
 use Rattle.log_fields.specs.declared.fault.Cause.TheVariants as cause
@@ -59,7 +59,3 @@ cause_name cause.LateCut = codes "LateCut"
 -- refused NUMBER CAUSENUMBER CAUSENAME
 unfoldable pub fault_line : ℕ → Cause → List ℕ
 fault_line number c = line (codes "refused" ∷ decimal number ∷ decimal (cause_number c) ∷ cause_name c ∷ [])
-
--- how the program is called
-unfoldable pub usage_line : List ℕ
-usage_line = codes "usage: codac_cli solve|loops|demo [--budget N] [--order fifo|lifo|rank] [--brief] [--seed N]\n"

@@ -1,4 +1,4 @@
-//! The report: what a run writes of each section of a mission, of a refused log and of wrong words.
+//! The report: what a run writes of each section of a mission, and of a refused log.
 //!
 //! Lines end with byte 10, words are parted by one space, and numbers are decimal. Bounds are in
 //! millimetres, or in whatever unit the signal or variable has, and times in ticks. No call takes memory.
@@ -9,5 +9,5 @@ pub mod refusal;
 pub mod section;
 pub mod tube;
 
-pub use refusal::{write_fault, write_usage};
+pub use refusal::write_fault;
 pub use section::{Verdict, write_section};

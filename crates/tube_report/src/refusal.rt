@@ -1,12 +1,12 @@
-//! What is written in place of a report.
+//! What is written in place of a report: why a log is refused.
 
 ghost use Rattle.std.specs.Prelude.{◌≡◌};
 ghost use Rattle.tube_io.specs.Sends.{Sends};
-ghost use Rattle.tube_report.specs.Causes.{cause_name, cause_number, fault_line, usage_line};
+ghost use Rattle.tube_report.specs.Causes.{cause_name, cause_number, fault_line};
 
 use log_fields::Cause;
 use text_pieces::{Piece, write_pieces};
-use tube_io::{Sink, WriteFault, write_all};
+use tube_io::{Sink, WriteFault};
 
 // The number of a cause, from 1 to 24.
 fn cause_number(cause: Cause) -> u32
@@ -64,15 +64,4 @@ pub fn write_fault<K: Sink>(number: u32, cause: Cause, sink: &mut K) -> Result<(
         Piece::Text(b"\n"),
     ];
     write_pieces(sink, &pieces)
-}
-
-/// Writes how the program is called. After an error, which is a failed write, a prefix of it was taken.
-#[tactic(auto, unfolding(crate::specs::Causes::usage_line))]
-pub fn write_usage<K: Sink>(sink: &mut K) -> Result<(), WriteFault>
-    ensures { Sends K.written K.flushed K.faults usage_line sink.old sink.new result }
-{
-    write_all(
-        sink,
-        b"usage: codac_cli solve|loops|demo [--budget N] [--order fifo|lifo|rank] [--brief] [--seed N]\n",
-    )
 }
