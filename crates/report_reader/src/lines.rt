@@ -107,7 +107,7 @@ fn ticked_of(text: &[u8]) -> Option<Ticked>
     let Some((tick, range)) = cut(text, b' ') else {
         return None;
     };
-    let Some(tick) = count_up_to(tick, u64::from(MOST_TICKS)) else {
+    let Some(tick) = count_up_to(tick, MOST_TICKS as u64) else {
         return None;
     };
     let Some(range) = range_of(range) else {
@@ -147,7 +147,7 @@ fn slice_of(rest: &[u8]) -> Option<Line>
     let Some((from, rest)) = cut(rest, b' ') else {
         return None;
     };
-    let Some(from) = count_up_to(from, u64::from(MOST_TICKS)) else {
+    let Some(from) = count_up_to(from, MOST_TICKS as u64) else {
         return None;
     };
     let Some(end) = ticked_of(rest) else {
