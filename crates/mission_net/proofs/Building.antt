@@ -25,6 +25,7 @@ use Rattle.mission_net.specs.Tables.{IsTableOf, IsTaken, Table}
 use Rattle.any_ctc.specs.declared.AnyCtc.{AnyCtc}
 use Rattle.any_ctc.specs.Contractors.{constraint_of}
 use Rattle.mission_net.specs.Building.{CanBuild, HasBeacon, IsAdded, IsBindable, IsNetOf, IsTimed}
+use Rattle.mission_net.proofs.Numbers.{net-constraints, numbered}
 use Rattle.mission_net.proofs.Shapes.{owners-append, shape-snoc, shape-grid, shape-extends}
 use Rattle.mission_net.proofs.Counts.{cells-count, signals-count, variables-count, signals-made, variables-made}
 use Rattle.mission_net.proofs.Holding.{satisfies-in-range}
@@ -41,7 +42,8 @@ added-holds grid before r old new holds added =
     let box : new.store.box ≡ box_more old.store.box (start_of grid (made before r)) = added.box ∙ ap (λ (g : List ℕ). box_more old.store.box (start_of g (made before r))) same in
     let starts : start grid (before ++ r ∷ []) ≡ start grid before ++ start_of grid (made before r) = start-append grid before (r ∷ []) ∙ ap (λ (os : List Owner). start grid before ++ start_of grid os) (append-nil (made before r)) in record {
       shape = added.shape ∙ ap (λ (s : Shape). with_owners s (made before r)) holds.shape ∙ sym (shape-snoc grid before r);
-      contractors = added.contractors ∙ ap (λ (xs : List Constraint). xs ++ constraints_of grid before r) holds.contractors ∙ sym (constraints-snoc grid before r);
+      contractors = numbered grid (before ++ r ∷ []) new.contractors
+          (added.contractors ∙ ap (λ (xs : List Constraint). xs ++ constraints_of grid before r) (net-constraints grid before old holds) ∙ sym (constraints-snoc grid before r));
       below = subst (λ (b : Option (List Span)). IsBelowBox b (Some (start grid (before ++ r ∷ [])))) (sym box)
           (subst (λ (d : List Span). IsBelowBox (box_more old.store.box (start_of grid (made before r))) (Some d)) (sym starts) (more-low old.store.box (start grid before) (start_of grid (made before r)) holds.below));
     }
@@ -152,7 +154,7 @@ module _ (m : Mission) (is : IsMission m) (i : ℕ) (x : Item) (net : NetState A
   so-far : map constraint_of net.contractors ++ constraints_of m.cuts (take i m.items) x ++ constraints_from m.cuts (take (i + 1) m.items) (drop (i + 1) m.items) ≡ constraints m.cuts m.items
   so-far =
       ap (λ (l : List Constraint). l ++ constraints_from m.cuts (take (i + 1) m.items) (drop (i + 1) m.items))
-      (ap (λ (xs : List Constraint). xs ++ constraints_of m.cuts (take i m.items) x) holds.contractors ∙ sym (constraints-snoc m.cuts (take i m.items) x) ∙ ap (constraints m.cuts) (sym longer))
+      (ap (λ (xs : List Constraint). xs ++ constraints_of m.cuts (take i m.items) x) (net-constraints m.cuts (take i m.items) net holds) ∙ sym (constraints-snoc m.cuts (take i m.items) x) ∙ ap (constraints m.cuts) (sym longer))
       ∙ sym (constraints-append m.cuts (take (i + 1) m.items) (drop (i + 1) m.items) []) ∙ ap (constraints m.cuts) (take-append-drop (i + 1) m.items)
 
   grid : net.store.shape.grid ≡ m.cuts

@@ -1,4 +1,5 @@
 pub mod Shapes
+pub mod Numbers
 pub mod Counts
 pub mod Beacons
 pub mod Reading
@@ -11,4 +12,5 @@ pub mod ByTable
 pub mod Steps
 pub mod Building
 pub mod Sections
+pub mod Costing
 pub mod Examples

@@ -1,5 +1,5 @@
 -- What a net holds of the records that were built, and what settling makes of it.
-use Rattle.std.specs.Prelude.{◌≡◌, ◌<◌, ℕ, List, ◌++◌, Option, Some, true, map, replicate, length, IsSome, IsNone, IsSomeAnd, All, ◌+◌, ◌≤◌, slice_get}
+use Rattle.std.specs.Prelude.{◌≡◌, ◌<◌, ℕ, List, [], ◌∷◌, ◌++◌, Option, Some, true, map, flat_map, replicate, length, IsSome, IsNone, IsSomeAnd, All, ◌+◌, ◌≤◌, slice_get}
 use Rattle.tube_spec.specs.Limits.{greatest_bound, most_cells, most_reads, most_signals, most_variables}
 use Rattle.tube_spec.specs.Span.{Span, IsBounded}
 use Rattle.tube_spec.specs.Box.{IsBelowBox, box_more, measure_of}
@@ -16,14 +16,18 @@ use Rattle.mission_items.specs.Made.{ranges_made, signal_made, signals_in, signa
 use Rattle.mission_items.specs.Valid.{IsMark}
 use Rattle.mission_net.specs.Tables.{IsTaken, Table}
 use Rattle.any_ctc.specs.Constraints.{Constraint, constraint_projections, reads_in, IsOf}
-use Rattle.mission_net.specs.Records.{constraints_of, made, shape_by, start, constraints, IsSection, IsEnclosure}
+use Rattle.mission_net.specs.Records.{constraints_of, made, shape_by, start, contractors_of, IsSection, IsEnclosure}
 use Rattle.any_ctc.specs.declared.AnyCtc.{AnyCtc}
 use Rattle.any_ctc.specs.Contractors.{constraint_of}
 
--- A net has exactly the cells and the contractors of the records, and its box lies below their declared ranges.
+-- the constraints that a contractor of a net stands for
+abbrev pub stands_for : AnyCtc → List Constraint
+stands_for c = constraint_of c ∷ []
+
+-- A net has exactly the cells and the contractors of the records, these under their numbers, and its box lies below their declared ranges.
 pub record IsNetOf (grid : List ℕ) (items : List Item) (net : NetState AnyCtc) : Type 0 where
   pub shape : net.store.shape ≡ shape_by grid items
-  pub contractors : map constraint_of net.contractors ≡ constraints grid items
+  pub contractors : map stands_for net.contractors ≡ contractors_of grid items
   pub below : IsBelowBox net.store.box (Some (start grid items))
 
 -- What additions make of a net: further cells at their declared ranges, and further contractors, which wait; of the others those that waited.
@@ -86,7 +90,7 @@ IsSectionAs grid items box (Spent id) = IsSome box × IsEnclosure grid items box
 -- the contractor with a number, among those of the records, still narrows the box
 abbrev pub StillNarrows : List ℕ → List Item → Option (List Span) → ℕ → Type 0
 StillNarrows grid items box k =
-    (c : Constraint) × (slice_get (constraints grid items) k ≡ Some c) × IsSomeAnd box (λ xs. IsFixpoint (constraint_projections (shape_by grid items) c) xs → ⊥)
+    (cs : List Constraint) × (slice_get (contractors_of grid items) k ≡ Some cs) × IsSomeAnd box (λ xs. IsFixpoint (flat_map (constraint_projections (shape_by grid items)) cs) xs → ⊥)
 
 -- Spent comes only where the measure fell by the budget at least, and the named contractor still narrows the box.
 abbrev pub IsSpentAs : List ℕ → List Item → Option (List Span) → ℕ → ℕ → Settled → Type 0

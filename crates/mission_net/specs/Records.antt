@@ -119,6 +119,10 @@ constraints_from grid before (r ∷ rs) = constraints_of grid before r ++ constr
 abbrev pub constraints : List ℕ → List Item → List Constraint
 constraints grid items = constraints_from grid [] items
 
+-- The contractors of all records by their numbers, from 0: each with the constraints that it stands for, which is one.
+abbrev pub contractors_of : List ℕ → List Item → List (List Constraint)
+contractors_of grid items = map (λ (c : Constraint). c ∷ []) (constraints grid items)
+
 -- the projections of all records
 abbrev pub projections : List ℕ → List Item → List Projection
 projections grid items = flat_map (constraint_projections (shape_by grid items)) (constraints grid items)

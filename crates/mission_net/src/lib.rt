@@ -4,6 +4,7 @@
 
 mod adding;
 mod formulas;
+mod laws;
 mod made;
 mod missions;
 mod motion;
@@ -12,6 +13,7 @@ mod records;
 mod section;
 
 pub use any_ctc::AnyCtc;
+pub use laws::settled_section_law;
 pub use made::Made;
 pub use missions::build;
 pub use section::{SectionEnd, next_section};

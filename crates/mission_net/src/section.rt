@@ -1,12 +1,14 @@
-ghost use Rattle.std.specs.Prelude.{◌≡◌, ◌+◌, ◌≤◌, ℕ, List, IfOk, OnOk, IsFalse, IsNone, All, length, take, drop};
-ghost use Rattle.tube_spec.specs.Box.{box_more, measure_of};
+ghost use Rattle.std.specs.Prelude.{◌≡◌, ◌+◌, ◌≤◌, ℕ, List, IfOk, IfSome, OnErr, OnOk, IsFalse, IsNone, IsSome, All, length, take, drop};
+ghost use Rattle.tube_spec.specs.Box.{AreBounded, IsBox, box_more, measure_of};
 ghost use Rattle.tube_spec.specs.Owner.{start_of};
 ghost use Rattle.mission_items.specs.Valid.{IsMission};
 ghost use Rattle.mission_net.specs.Records.{owners_from, IsEnclosure, Encloses};
 ghost use Rattle.mission_net.specs.Tables.{IsTableOf};
 ghost use Rattle.mission_net.specs.Building.{IsNetOf, IsSectionAs, IsSpentAs};
+ghost use Rattle.mission_net.specs.Costs.{section_cost};
 
 use crate::AnyCtc;
+use crate::laws::settled_section_law;
 use crate::made::Made;
 use crate::missions::build_on;
 use ctc_network::{Net, Order, Settled};
@@ -56,6 +58,9 @@ pub fn next_section<L: Ledger>(
     ensures section { IfOk result (λ end. IsSectionAs mission.now.cuts (take last mission.now.items) net.new.store.box end.answer) }
     ensures encloses { OnOk result (Encloses mission.now.cuts (take last mission.now.items) net.new.store.box) }
 
+    // Where it is not empty, each cell has a number, and all are within the bound.
+    ensures proper { OnOk result (IfSome net.new.store.box (λ xs. IsBox xs × AreBounded xs)) }
+
     // Nobody waits at a fixpoint, and the budget is spent only with its cause.
     ensures resting { IfOk result (λ end. end.answer ≡ Settled.Fixpoint → All IsFalse net.new.waiting) }
     ensures began { IfOk result (λ end. end.began ≡ measure_of (box_more net.old.store.box (start_of mission.now.cuts (owners_from (take first mission.now.items) (drop first (take last mission.now.items)))))) }
@@ -67,11 +72,19 @@ pub fn next_section<L: Ledger>(
     // After an empty section it is empty, and no contractor is fired for it.
     ensures emptied { IfOk result (λ end. IsNone net.old.store.box → end.answer ≡ Settled.Empty) }
     ensures unfired { IsNone net.old.store.box → steps.new ≡ steps.old }
+
+    // Where nobody waited before, it takes a step for each contractor that is added, at most, and for each cell the width that it loses
+    // times one more than its readers. Nothing is settled where memory runs out.
+    ensures cost { IfOk result (λ end. (IsSome net.old.store.box → All IsFalse net.old.waiting) → steps.new ≤ steps.old + section_cost mission.now.cuts mission.now.items first last (box_more net.old.store.box (start_of mission.now.cuts (owners_from (take first mission.now.items) (drop first (take last mission.now.items))))) net.new.store.box) }
+    ensures unsettled { OnErr result (steps.new ≡ steps.old) }
 {
     build_on(mission, first, last, table, net)?;
     let store = net.store();
     store.known();
     let began = store.measure();
     let answer = net.settle(order, budget, steps);
+    settled_section_law();
+    let settled = net.store();
+    settled.known();
     Ok(SectionEnd { answer, began })
 }
