@@ -1,0 +1,4 @@
+pub mod SliceSweeps
+pub mod SliceSweepLaws
+pub mod DerivSweeps
+pub mod DerivSweepLaws
