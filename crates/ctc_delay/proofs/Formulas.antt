@@ -13,7 +13,7 @@ use Rattle.ctc_delay.specs.Hulls.{int_le-true, le-int_le}
 use Rattle.ctc_delay.proofs.Counts.{to-at, from-at}
 
 -- what is held only where one number is at most another
-guarded : (a b : ℤ) (h : Option Span) → a ≤ℤ b → narrowing_of h ≡ cond (int_le a b) (narrowing_of h) Whole
+pub guarded : (a b : ℤ) (h : Option Span) → a ≤ℤ b → narrowing_of h ≡ cond (int_le a b) (narrowing_of h) Whole
 guarded a b h l = ap (λ (t : Bool). cond t (narrowing_of h) Whole) (sym (le-int_le a b l))
 
 unguarded : (a b : ℤ) (h : Option Span) → (a ≤ℤ b → ⊥) → Whole ≡ cond (int_le a b) (narrowing_of h) Whole

@@ -3,6 +3,7 @@ pub mod Strides
 pub mod Counts
 pub mod Formulas
 pub mod DelayHulls
+pub mod OverWindows
 pub mod PossibleDelays
 pub mod Stable
 mod Examples

@@ -1,10 +1,9 @@
 -- From a tick to the first one past its place: the ticks that stand at a place, and where the next one stands.
 use Rattle.std.proofs.Common.{◌≡◌, ℕ, ◌+◌, ◌-◌, ◌*◌, ◌/◌, ◌%◌, ◌<◌, ◌≤◌, min, ◌⊎◌, inl, inr, List, length, slice_index, arith, sym, ap, subst, ◌∙◌}
-use Rattle.std.proofs.lemmas.Bool.{cases_lt}
 use Rattle.tube_spec.specs.Grid.{IsGrid, last_tick}
 use Rattle.tube_spec.specs.Tick.{tick_place}
-use Rattle.tube_spec.proofs.Ticks.{tick-split, tick_place-gate, tick_place-inside, AtBoundary, InSlice, last-greatest}
-use Rattle.ctc_delay.specs.Places.{place_count, place_last, place_end}
+use Rattle.tube_spec.proofs.Ticks.{tick-split, tick_place-gate, tick_place-inside, AtBoundary, InSlice}
+use Rattle.ctc_delay.specs.Places.{place_last, place_end}
 
 -- a tick at the place of a gate, or at that of an envelope
 pub record AtGate (grid : List ℕ) (place from : ℕ) : Type 0 where

@@ -62,7 +62,7 @@ delays-mono grid xs ys x y tau wider w hx hy =
     (and-right (lies_in tau d) (is_possible grid xs x y d) e) in
     counted-hull-holds (λ d. lies_in wider d && is_possible grid ys x y d) (λ d. point (pos d)) (last_tick grid + 1) d l (and-both (lies_in wider d) (is_possible grid ys x y d) inside possible))
 
-to-mono : (Fits : List Span → Type 0) (grid : List ℕ) (x y tau place : ℕ) → IsMonotone Fits (delay_to_at grid x y tau place)
+pub to-mono : (Fits : List Span → Type 0) (grid : List ℕ) (x y tau place : ℕ) → IsMonotone Fits (delay_to_at grid x y tau place)
 to-mono Fits grid x y tau place xs ys bx by fits low =
     let w = low.each tau in
     guarded-mono (int_le (cell_at xs tau).hi (pos (place_first grid place))) (int_le (cell_at ys tau).hi (pos (place_first grid place)))
@@ -71,7 +71,7 @@ to-mono Fits grid x y tau place xs ys bx by fits low =
     (λ e. le-int_le (cell_at xs tau).hi (pos (place_first grid place)) (omega (arith, ints, w.high, int_le-true (cell_at ys tau).hi (pos (place_first grid place)) e)))
     (delayed-mono (λ k d. at_tick_from grid xs x (k - d)) (λ k d. at_tick_from grid ys x (k - d)) (cell_at xs tau) (cell_at ys tau) (last_tick grid) (place_first grid place) (place_last grid place) w (λ k d. low.each (x + tick_place grid (k - d))))
 
-from-mono : (Fits : List Span → Type 0) (grid : List ℕ) (x y tau place : ℕ) → IsMonotone Fits (delay_from_at grid x y tau place)
+pub from-mono : (Fits : List Span → Type 0) (grid : List ℕ) (x y tau place : ℕ) → IsMonotone Fits (delay_from_at grid x y tau place)
 from-mono Fits grid x y tau place xs ys bx by fits low =
     let w = low.each tau in
     let end = place_last grid place in

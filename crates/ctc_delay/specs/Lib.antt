@@ -3,3 +3,5 @@ pub mod Delays
 pub mod Ranges
 pub mod Hulls
 pub mod DelayLaws
+pub mod Windows
+pub mod WindowLaws

@@ -20,11 +20,13 @@
 
 mod delays;
 mod from;
+mod held;
 mod laws;
 mod places;
 mod possible;
 mod shift;
 mod to;
+mod windows;
 
 pub use from::DelayFrom;
 pub use laws::{delay_from_law, delay_shift_law, delay_to_law};

@@ -1,10 +1,19 @@
 //! The contractor of the later signal, from the earlier one.
 
-ghost use Rattle.std.specs.Prelude.{◌≡◌};
+ghost use Rattle.std.specs.Prelude.{◌≡◌, ◌+◌, ◌<◌, ◌≤◌, IsSome, IfSome, map, slice_index};
+ghost use Rattle.std.specs.List.{range_with_len};
+ghost use Rattle.ctc_core.specs.Answers.{Revises};
+ghost use Rattle.ctc_delay.specs.Delays.{delay_to_at, delay_to_projections, DelayFits};
+ghost use Rattle.ctc_delay.specs.Places.{place_count};
+ghost use Rattle.ctc_delay.specs.Windows.{IsWindowOf};
 
-use super::delays::{earlier, given_of};
+use super::delays::{delays_in, earlier, given_of};
+use super::held::{held_from, hold_given};
 use super::places::{cell_at_place, place_count, ticks_at};
-use ctc_core::{Contractor, Formulas, Given, Revised, revise_by_formulas, still_by_formulas};
+use super::windows::Window;
+use ctc_core::{
+    Contractor, Formulas, Given, Revised, revise_by_formulas, start, still_by_formulas,
+};
 use std::sync::ledger::Ledger;
 use step_count::Steps;
 use tube_store::{CellId, SignalId, Store, VarId};
@@ -27,6 +36,73 @@ impl DelayTo {
         ensures { result ≡ record { x = x; y = y; tau = tau } }
     {
         DelayTo { x, y, tau }
+    }
+
+    // The window of the places from one on, where no delay is above the first tick of that one and there is a delay.
+    fn window(&self, store: &Store, place: u32) -> Option<Window>
+        requires fits { DelayFits store.now.shape self.now.x.0 self.now.y.0 self.now.tau.0 }
+        requires place { place < place_count store.now.shape.grid }
+        requires filled { IsSome store.now.box }
+        ensures { let s = store.now.shape in
+            IfSome result (λ w. IsWindowOf s store.now.box (delay_to_at s.grid (slice_index s.signals self.now.x.0) (slice_index s.signals self.now.y.0) (slice_index s.vars self.now.tau.0)) w place) }
+    {
+        store.known();
+        let tau = store.get(store.var(self.tau));
+        let ticks = ticks_at(store, place);
+        if (ticks.first as i64) < tau.hi() {
+            return None;
+        }
+        let delays = delays_in(tau, store.grid().ticks())?;
+        Some(Window {
+            signal: self.x,
+            ahead: 0,
+            behind: delays.greatest,
+            width: delays.greatest - delays.least,
+        })
+    }
+
+    // Fires the projections of places from one on, as many as are found at once, and says of how many.
+    fn fire_some(&self, store: &mut Store, first: u32) -> (Revised, u32)
+        requires fits { DelayFits store.old.shape self.now.x.0 self.now.y.0 self.now.tau.0 }
+        requires first { first < place_count store.old.shape.grid }
+        ensures fired { let s = store.old.shape in
+            Revises (map (delay_to_at s.grid (slice_index s.signals self.now.x.0) (slice_index s.signals self.now.y.0) (slice_index s.vars self.now.tau.0)) (range_with_len first result.1)) store.old store.new result.0 }
+        ensures some { 0 < result.1 }
+        ensures among { first + result.1 ≤ place_count store.old.shape.grid }
+    {
+        store.known();
+        if store.is_empty() {
+            return (Revised::Empty, 1);
+        }
+        match self.window(store, first) {
+            Some(window) => {
+                let held = held_from(window, store, self.y, first);
+                let answer = revise_by_formulas(&held, store);
+                (answer, held.count)
+            }
+            None => {
+                let cell = cell_at_place(store, self.y, first);
+                let given = self.given(store, first);
+                let answer = hold_given(store, cell, given);
+                (answer, 1)
+            }
+        }
+    }
+
+    // Fires each projection once, in order.
+    fn fire(&self, store: &mut Store) -> Revised
+        requires { DelayFits store.old.shape self.now.x.0 self.now.y.0 self.now.tau.0 }
+        ensures { Revises (delay_to_projections store.old.shape self.now.x.0 self.now.y.0 self.now.tau.0) store.old store.new result }
+    {
+        let count = place_count(store);
+        let mut answer = start(store);
+        let mut done = 0;
+        while done < count {
+            let (next, here) = self.fire_some(store, done);
+            answer = answer.then(next);
+            done += here;
+        }
+        answer
     }
 }
 
@@ -110,7 +186,7 @@ impl Contractor for DelayTo {
 
     fn revise<L: Ledger>(&self, store: &mut Store, steps: &mut Steps<L>) -> Revised {
         steps.tick();
-        revise_by_formulas(self, store)
+        self.fire(store)
     }
 
     fn still<L: Ledger>(&self, store: &Store, steps: &mut Steps<L>) -> bool {

@@ -1,4 +1,4 @@
-use Rattle.std.proofs.Common.{◌≡◌, ℕ, ◌+◌, ◌/◌, ◌<◌, ◌≤◌, List, length, slice_index, arith, sym, ap, subst, ◌∙◌}
+use Rattle.std.proofs.Common.{◌≡◌, ℕ, ◌+◌, ◌/◌, ◌<◌, List, length, slice_index, arith, sym, ap, ◌∙◌}
 use Rattle.ctc_delay.specs.Places.{place_end}
 use Rattle.ctc_delay.proofs.Strides.{stands-still, odd-next, even-next, gate-next}
 use Rattle.ctc_delay.proofs.places.place_on.Goals as goal

@@ -1,10 +1,10 @@
-use Rattle.std.proofs.Common.{◌≡◌, ℕ, ◌+◌, ◌-◌, ◌*◌, ◌<◌, ◌≤◌, min, List, length, arith, sym, ap, subst, ◌∙◌, slice_index}
+use Rattle.std.proofs.Common.{◌≡◌, ℕ, ◌+◌, ◌-◌, ◌≤◌, min, List, length, arith, sym, ap, ◌∙◌, slice_index}
 use Rattle.tube_spec.specs.Span.{IsProper, meet_of}
 use Rattle.tube_spec.specs.Grid.{last_tick}
 use Rattle.tube_spec.specs.Tick.{tick_place}
 use Rattle.tube_spec.proofs.Monotone.{IfSome-any, IfSome-map}
 use Rattle.ctc_delay.specs.Places.{place_end}
-use Rattle.ctc_delay.proofs.Strides.{BothStand, both-stand}
+use Rattle.ctc_delay.proofs.Strides.{both-stand}
 use Rattle.ctc_delay.proofs.PossibleDelays.{IfSome-map3, not-possible, cell-at, shares-on, possible-all}
 use Rattle.ctc_delay.proofs.possible.is_possible.Goals as goal
 
