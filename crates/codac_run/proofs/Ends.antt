@@ -28,15 +28,15 @@ use Rattle.codac_run.specs.Statuses.{Wrong, Accepted, Refused, Untold, Standing,
 use Rattle.codac_run.proofs.Handing.{spent-small}
 
 -- over a log that was heard
-pub over-heard : (plan : Plan) (left rest old new : Option (List ℕ)) (flushed : Option ℕ) (e : Ended) (told : Option (List ℕ)) (log : Result Mission (List ℕ)) → Hears 67108864 left rest told → TellsLowest told → log_heard told ≡ log
-    → EndsBy log plan old new flushed e → EndsFrom origin.Source plan left rest old new flushed e
-over-heard plan left rest old new flushed e told log hears lowest is ends =
-    inr (inr (told, hears, lowest, subst (λ (l : Result Mission (List ℕ)). EndsBy l plan old new flushed e) (sym is) ends))
+pub over-heard : (plan : Plan) (left rest old new : Option (List ℕ)) (flushed : Option ℕ) (e : Ended) (used : ℕ) (told : Option (List ℕ)) (log : Result Mission (List ℕ)) → Hears 67108864 left rest told → TellsLowest told → log_heard told ≡ log
+    → EndsBy log plan old new flushed e used → EndsFrom origin.Source plan left rest old new flushed e used
+over-heard plan left rest old new flushed e used told log hears lowest is ends =
+    inr (inr (told, hears, lowest, subst (λ (l : Result Mission (List ℕ)). EndsBy l plan old new flushed e used) (sym is) ends))
 
-pub over-accepted : (plan : Plan) (left rest old new : Option (List ℕ)) (flushed : Option ℕ) (e : Ended) (told : Option (List ℕ)) (m : Mission) → Hears 67108864 left rest told → TellsLowest told → log_heard told ≡ Ok m
-    → Stops status.NoMemory old new e ⊎ EndsBy (Ok m) plan old new flushed e → EndsFrom origin.Source plan left rest old new flushed e
-over-accepted plan left rest old new flushed e told m hears lowest is (inl stops) = inl stops
-over-accepted plan left rest old new flushed e told m hears lowest is (inr ends) = over-heard plan left rest old new flushed e told (Ok m) hears lowest is ends
+pub over-accepted : (plan : Plan) (left rest old new : Option (List ℕ)) (flushed : Option ℕ) (e : Ended) (used : ℕ) (told : Option (List ℕ)) (m : Mission) → Hears 67108864 left rest told → TellsLowest told → log_heard told ≡ Ok m
+    → Stops status.NoMemory old new e used ⊎ EndsBy (Ok m) plan old new flushed e used → EndsFrom origin.Source plan left rest old new flushed e used
+over-accepted plan left rest old new flushed e used told m hears lowest is (inl stops) = inl stops
+over-accepted plan left rest old new flushed e used told m hears lowest is (inr ends) = over-heard plan left rest old new flushed e used told (Ok m) hears lowest is ends
 
 -- ---- the table of statuses
 
@@ -56,16 +56,16 @@ by-verdict answer.Fixpoint s e = inl e
 by-verdict answer.Empty s e = inr (inl e)
 by-verdict (answer.Spent id) s e = inr (inr e)
 
-module _ (plan : Plan) (old new : Option (List ℕ)) (flushed : Option ℕ) (e : Ended) where
-  can-report : (m : Mission) → EndsBy (Ok m) plan old new flushed e → CanEnd Accepted e.status
+module _ (plan : Plan) (old new : Option (List ℕ)) (flushed : Option ℕ) (e : Ended) (used : ℕ) where
+  can-report : (m : Mission) → EndsBy (Ok m) plan old new flushed e used → CanEnd Accepted e.status
   can-report m (inl out) = inr (inr (inr out.ended))
   can-report m (inr (inl out)) = inr (inr (inr out.ended))
   can-report m (inr (inr r)) = elim r.writes [ inl w ↦ inl (by-verdict r.last.answer e.status w.0) | inr w ↦ inr (inr (inl w.0)) ]
 
-  pub can-by : (log : Result Mission (List ℕ)) → EndsBy log plan old new flushed e → CanEnd (standing_by (Some log)) e.status
+  pub can-by : (log : Result Mission (List ℕ)) → EndsBy log plan old new flushed e used → CanEnd (standing_by (Some log)) e.status
   can-by (Ok m) ends = can-report m ends
-  can-by (Err line) (inl w, bare) = inl w.0
-  can-by (Err line) (inr w, bare) = inr (inr (inl w.0))
+  can-by (Err line) (inl w, bare, none) = inl w.0
+  can-by (Err line) (inr w, bare, none) = inr (inr (inl w.0))
 
   pub untold : (log : Result Mission (List ℕ)) → CanEnd (standing_by (Some log)) e.status → CanEnd Untold e.status
   untold (Ok m) (inl r) = inl r
@@ -87,44 +87,44 @@ heard-is : (bytes : List ℕ) (rest told : Option (List ℕ)) → Hears 67108864
 heard-is bytes rest (Some xs) hears = ap (λ (l : List ℕ). judged (log_of l)) hears.0
 heard-is bytes rest None hears = sym (ap judged (too-long bytes hears))
 
-module _ (plan : Plan) (rest old new : Option (List ℕ)) (flushed : Option ℕ) (e : Ended) where
-  pub can-from : (o : Origin) (left : Option (List ℕ)) → EndsFrom o plan left rest old new flushed e → CanEnd (standing_by (log_from o left)) e.status
+module _ (plan : Plan) (rest old new : Option (List ℕ)) (flushed : Option ℕ) (e : Ended) (used : ℕ) where
+  pub can-from : (o : Origin) (left : Option (List ℕ)) → EndsFrom o plan left rest old new flushed e used → CanEnd (standing_by (log_from o left)) e.status
   can-from (origin.Demo seed) left (inl stops) = no-memory Accepted e.status stops.0
-  can-from (origin.Demo seed) left (inr ends) = can-by plan old new flushed e (Ok _) ends
+  can-from (origin.Demo seed) left (inr ends) = can-by plan old new flushed e used (Ok _) ends
   can-from origin.Source left (inl stops) = no-memory (standing_by (log_from origin.Source left)) e.status stops.0
   can-from origin.Source left (inr (inl stops)) = no-read (log_from origin.Source left) e.status stops.0
-  can-from origin.Source None (inr (inr h)) = untold plan old new flushed e (log_heard h.0) (can-by plan old new flushed e (log_heard h.0) h.3)
+  can-from origin.Source None (inr (inr h)) = untold plan old new flushed e used (log_heard h.0) (can-by plan old new flushed e used (log_heard h.0) h.3)
   can-from origin.Source (Some bytes) (inr (inr h)) =
-      subst (λ (log : Result Mission (List ℕ)). CanEnd (standing_by (Some log)) e.status) (heard-is bytes rest h.0 h.1) (can-by plan old new flushed e (log_heard h.0) h.3)
+      subst (λ (log : Result Mission (List ℕ)). CanEnd (standing_by (Some log)) e.status) (heard-is bytes rest h.0 h.1) (can-by plan old new flushed e used (log_heard h.0) h.3)
 
 -- which statuses can come
-pub ends-can : (p : Option Plan) (left rest old new : Option (List ℕ)) (flushed : Option ℕ) (e : Ended) → Ends p left rest old new flushed e → CanEnd (standing_of p left) e.status
-ends-can None left rest old new flushed e (inl stops) = no-memory Wrong e.status stops.0
-ends-can None left rest old new flushed e (inr (inl w, bare)) = inl w.0
-ends-can None left rest old new flushed e (inr (inr w, bare)) = inr (inl w.0)
-ends-can (Some plan) left rest old new flushed e ends = can-from plan rest old new flushed e plan.origin left ends
+pub ends-can : (p : Option Plan) (left rest old new : Option (List ℕ)) (flushed : Option ℕ) (e : Ended) (used : ℕ) → Ends p left rest old new flushed e used → CanEnd (standing_of p left) e.status
+ends-can None left rest old new flushed e used (inl stops) = no-memory Wrong e.status stops.0
+ends-can None left rest old new flushed e used (inr (inl w, bare, none)) = inl w.0
+ends-can None left rest old new flushed e used (inr (inr w, bare, none)) = inr (inl w.0)
+ends-can (Some plan) left rest old new flushed e used ends = can-from plan rest old new flushed e used plan.origin left ends
 
 -- ---- over an accepted log
 
 -- where the source told a log that is accepted, the run stopped before or ended by this log
-pub ends-accepted : (plan : Plan) (rest old new : Option (List ℕ)) (flushed : Option ℕ) (e : Ended) (o : Origin) (left : Option (List ℕ)) (m : Mission) → log_from o left ≡ Some (Ok m) → EndsFrom o plan left rest old new flushed e
-    → (e.status ≡ status.NoMemory) ⊎ (e.status ≡ status.ReadFault) ⊎ EndsBy (Ok m) plan old new flushed e
-ends-accepted plan rest old new flushed e (origin.Demo seed) left m is (inl stops) = inl stops.0
-ends-accepted plan rest old new flushed e (origin.Demo seed) left m is (inr ends) =
-    inr (inr (subst (λ (l : Option (Result Mission (List ℕ))). IfSome l (λ log. EndsBy log plan old new flushed e)) is ends))
-ends-accepted plan rest old new flushed e origin.Source left m is (inl stops) = inl stops.0
-ends-accepted plan rest old new flushed e origin.Source left m is (inr (inl stops)) = inr (inl stops.0)
-ends-accepted plan rest old new flushed e origin.Source None m is (inr (inr h)) = absurd (cc is)
-ends-accepted plan rest old new flushed e origin.Source (Some bytes) m is (inr (inr h)) =
-    inr (inr (subst (λ (l : Option (Result Mission (List ℕ))). IfSome l (λ log. EndsBy log plan old new flushed e)) is
-    (subst (λ (log : Result Mission (List ℕ)). EndsBy log plan old new flushed e) (heard-is bytes rest h.0 h.1) h.3)))
+pub ends-accepted : (plan : Plan) (rest old new : Option (List ℕ)) (flushed : Option ℕ) (e : Ended) (used : ℕ) (o : Origin) (left : Option (List ℕ)) (m : Mission) → log_from o left ≡ Some (Ok m) → EndsFrom o plan left rest old new flushed e used
+    → (e.status ≡ status.NoMemory) ⊎ (e.status ≡ status.ReadFault) ⊎ EndsBy (Ok m) plan old new flushed e used
+ends-accepted plan rest old new flushed e used (origin.Demo seed) left m is (inl stops) = inl stops.0
+ends-accepted plan rest old new flushed e used (origin.Demo seed) left m is (inr ends) =
+    inr (inr (subst (λ (l : Option (Result Mission (List ℕ))). IfSome l (λ log. EndsBy log plan old new flushed e used)) is ends))
+ends-accepted plan rest old new flushed e used origin.Source left m is (inl stops) = inl stops.0
+ends-accepted plan rest old new flushed e used origin.Source left m is (inr (inl stops)) = inr (inl stops.0)
+ends-accepted plan rest old new flushed e used origin.Source None m is (inr (inr h)) = absurd (cc is)
+ends-accepted plan rest old new flushed e used origin.Source (Some bytes) m is (inr (inr h)) =
+    inr (inr (subst (λ (l : Option (Result Mission (List ℕ))). IfSome l (λ log. EndsBy log plan old new flushed e used)) is
+    (subst (λ (log : Result Mission (List ℕ)). EndsBy log plan old new flushed e used) (heard-is bytes rest h.0 h.1) h.3)))
 
 no-fault : (a : Settled) → status_of (verdict_of a) ≡ status.WriteFault → ⊥
 no-fault answer.Fixpoint e = cc e
 no-fault answer.Empty e = cc e
 no-fault (answer.Spent id) e = cc e
 
-module _ (m : Mission) (plan : Plan) (old new : Option (List ℕ)) (flushed : Option ℕ) (e : Ended) where
+module _ (m : Mission) (plan : Plan) (old new : Option (List ℕ)) (flushed : Option ℕ) (e : Ended) (used : ℕ) where
   -- a section that starts below the budget is not spent
   unspent : (last : Section) → IsSpentAs m.cuts (take last.upto m.items) last.box last.began plan.sections.budget last.answer → last.began < plan.sections.budget → (a : Settled) → a ≡ last.answer
       → e.status ≡ status_of (verdict_of a) → IsWholeOrNoMemory e.status
@@ -133,7 +133,7 @@ module _ (m : Mission) (plan : Plan) (old new : Option (List ℕ)) (flushed : Op
   unspent last cause below (answer.Spent id) same w =
       let c = subst (IsSpentAs m.cuts (take last.upto m.items) last.box last.began plan.sections.budget) (sym same) cause in absurd (omega (arith, c.0, below))
 
-  pub whole-by : EndsBy (Ok m) plan old new flushed e → StartsBelow m plan.sections.budget → (e.status ≡ status.WriteFault → ⊥) → IsWholeOrNoMemory e.status
+  pub whole-by : EndsBy (Ok m) plan old new flushed e used → StartsBelow m plan.sections.budget → (e.status ≡ status.WriteFault → ⊥) → IsWholeOrNoMemory e.status
   whole-by (inl out) below fine = inr (inr out.ended)
   whole-by (inr (inl out)) below fine = inr (inr out.ended)
   whole-by (inr (inr r)) below fine = elim r.writes [
@@ -143,7 +143,7 @@ module _ (m : Mission) (plan : Plan) (old new : Option (List ℕ)) (flushed : Op
   ]
 
   -- the bytes of a report are no more than a text that it begins with
-  pub few-bytes : (bytes : List ℕ) (n : ℕ) → old ≡ Some [] → new ≡ Some bytes → EndsBy (Ok m) plan old new flushed e → IsShorter m plan n → e.status ≡ status.WriteFault → length bytes < n
+  pub few-bytes : (bytes : List ℕ) (n : ℕ) → old ≡ Some [] → new ≡ Some bytes → EndsBy (Ok m) plan old new flushed e used → IsShorter m plan n → e.status ≡ status.WriteFault → length bytes < n
   few-bytes bytes n none some (inl out) short fault = absurd (let bad : status.WriteFault ≡ status.NoMemory = sym fault ∙ out.ended in cc bad)
   few-bytes bytes n none some (inr (inl out)) short fault = absurd (let bad : status.WriteFault ≡ status.NoMemory = sym fault ∙ out.ended in cc bad)
   few-bytes bytes n none some (inr (inr r)) short fault = elim r.writes [
@@ -156,12 +156,12 @@ module _ (m : Mission) (plan : Plan) (old new : Option (List ℕ)) (flushed : Op
   ]
 
 -- where the words are right, the log is accepted, nothing failed and each section starts below the budget, the report is whole, or memory ran out
-pub ends-whole : (p : Option Plan) (left rest old new : Option (List ℕ)) (flushed : Option ℕ) (e : Ended) → Ends p left rest old new flushed e → (plan : Plan) (m : Mission) → p ≡ Some plan → log_planned plan left ≡ Some (Ok m)
+pub ends-whole : (p : Option Plan) (left rest old new : Option (List ℕ)) (flushed : Option ℕ) (e : Ended) (used : ℕ) → Ends p left rest old new flushed e used → (plan : Plan) (m : Mission) → p ≡ Some plan → log_planned plan left ≡ Some (Ok m)
     → (e.status ≡ status.ReadFault → ⊥) → (e.status ≡ status.WriteFault → ⊥) → StartsBelow m plan.sections.budget → IsWholeOrNoMemory e.status
-ends-whole p left rest old new flushed e ends plan m right accepted read write below =
-    elim (ends-accepted plan rest old new flushed e plan.origin left m accepted (subst (λ (q : Option Plan). Ends q left rest old new flushed e) right ends)) [
+ends-whole p left rest old new flushed e used ends plan m right accepted read write below =
+    elim (ends-accepted plan rest old new flushed e used plan.origin left m accepted (subst (λ (q : Option Plan). Ends q left rest old new flushed e used) right ends)) [
       | inl out ↦ inr (inr out)
-      | inr more ↦ elim more [ inl fault ↦ absurd (read fault) | inr by ↦ whole-by m plan old new flushed e by below write ]
+      | inr more ↦ elim more [ inl fault ↦ absurd (read fault) | inr by ↦ whole-by m plan old new flushed e used by below write ]
     ]
 
 -- ---- in memory
@@ -177,13 +177,13 @@ no-rose (inl more) = omega (arith, more)
 no-rose (inr last) = omega (arith, last)
 
 -- in a sink that fails only where it has so many bytes, no write fails where no text that the report begins with has so many
-pub no-write-fault : (p : Option Plan) (log bytes : List ℕ) (rest : Option (List ℕ)) (flushed : Option ℕ) (e : Ended) → Ends p (Some log) rest (Some []) (Some bytes) flushed e → (plan : Plan) (m : Mission) → p ≡ Some plan
+pub no-write-fault : (p : Option Plan) (log bytes : List ℕ) (rest : Option (List ℕ)) (flushed : Option ℕ) (e : Ended) (used : ℕ) → Ends p (Some log) rest (Some []) (Some bytes) flushed e used → (plan : Plan) (m : Mission) → p ≡ Some plan
     → log_planned plan (Some log) ≡ Some (Ok m) → (n : ℕ) → IsShorter m plan n → (e.status ≡ status.WriteFault → length bytes ≡ n) → e.status ≡ status.WriteFault → ⊥
-no-write-fault p log bytes rest flushed e ends plan m right accepted n short full fault =
-    elim (ends-accepted plan rest (Some []) (Some bytes) flushed e plan.origin (Some log) m accepted (subst (λ (q : Option Plan). Ends q (Some log) rest (Some []) (Some bytes) flushed e) right ends)) [
+no-write-fault p log bytes rest flushed e used ends plan m right accepted n short full fault =
+    elim (ends-accepted plan rest (Some []) (Some bytes) flushed e used plan.origin (Some log) m accepted (subst (λ (q : Option Plan). Ends q (Some log) rest (Some []) (Some bytes) flushed e used) right ends)) [
       | inl out ↦ let bad : status.WriteFault ≡ status.NoMemory = sym fault ∙ out in cc bad
       | inr more ↦ elim more [
         | inl read ↦ let bad : status.WriteFault ≡ status.ReadFault = sym fault ∙ read in cc bad
-        | inr by ↦ omega (arith, full fault, few-bytes m plan (Some []) (Some bytes) flushed e bytes n refl refl by short fault)
+        | inr by ↦ omega (arith, full fault, few-bytes m plan (Some []) (Some bytes) flushed e used bytes n refl refl by short fault)
       ]
     ]

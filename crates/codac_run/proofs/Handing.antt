@@ -1,8 +1,9 @@
 -- What a run over an accepted log leaves, from what settling and writing its sections say.
-use Rattle.std.proofs.Common.{◌≡◌, ℕ, ◌+◌, ◌≤◌, ◌⊎◌, inl, inr, Bool, true, false, List, [], ◌∷◌, ◌++◌, Option, None, Result, Ok, Err, OnOk, IsErr, IsSomeAnd, refl, sym, ap, subst, ◌∙◌, arith, length, map, take}
+use Rattle.std.proofs.Common.{◌≡◌, ℕ, ◌+◌, ◌-◌, ◌≤◌, ◌⊎◌, inl, inr, Bool, true, false, List, [], ◌∷◌, ◌++◌, Option, None, Result, Ok, Err, OnOk, IsErr, IsSomeAnd, refl, sym, ap, subst, ◌∙◌, arith, length, map, take}
 use Rattle.std.proofs.lemmas.List.{map-append}
 use Rattle.std.proofs.Math.Seq.{take-length}
 use Rattle.tube_spec.specs.Span.{Span}
+use Rattle.tube_spec.specs.Shape.{Shape}
 use Rattle.tube_spec.specs.Box.{measure_of}
 use Rattle.tube_io.specs.Sends.{Sends}
 use Rattle.tube_io.specs.declared.whole.WriteFault.{WriteFault}
@@ -11,6 +12,7 @@ use Rattle.ctc_network.specs.declared.answers.Settled.{Settled}
 use Rattle.ctc_network.specs.declared.answers.Settled.TheVariants as answer
 use Rattle.mission_items.specs.declared.item.Item.{Item}
 use Rattle.mission_items.specs.declared.mission.Mission.{Mission}
+use Rattle.mission_items.specs.Valid.{IsMission}
 use Rattle.mission_net.specs.Building.{IsNetOf, IsSpentAs}
 use Rattle.mission_net.specs.Records.{shape_by}
 use Rattle.any_ctc.specs.declared.AnyCtc.{AnyCtc}
@@ -27,7 +29,8 @@ use Rattle.loop_report.specs.declared.found.Found.{Found}
 use Rattle.mission_loops.specs.Texts.{last_told}
 use Rattle.mission_loops.specs.declared.writing.Findings.{Findings}
 use Rattle.codac_run.specs.Reports.{IsSpent, HandsSpent, IsSettledNet, HandsNet, HandsWhere, HandsNetWhere, HandsFound, IsSettledOnly, status_of, Writes, Stops, IsBare, run_text, RunsOut, RunsOutAfter, Reports}
-use Rattle.codac_run.specs.Tails.{AreToldOf, AreAllTold}
+use Rattle.mission_loops.specs.Cost.{TakesAtMost}
+use Rattle.codac_run.specs.Tails.{told_queries, AreToldOf, AreAllTold, AreStepsOf}
 use Rattle.codac_run.specs.declared.plan.Plan.{Plan}
 use Rattle.codac_run.specs.Telling.{AreToldAfter, AreCutShortAfter}
 
@@ -142,8 +145,9 @@ hands-found false status.Spent last told handed same h = h
 hands-found false status.NoMemory last told handed same h = h
 
 module _ {K : Type 0} (written : K → Option (List ℕ)) (flushed : K → Option ℕ) (faults : K → ℕ) (m : Mission) (plan : Plan) (old mid : K)
-    (net : NetState AnyCtc) (section : LastSection) (e : Ended)
-    (r : IsReported written flushed faults m plan.sections old mid net section)
+    (net : NetState AnyCtc) (section : LastSection) (e : Ended) (before middle now : ℕ) (is : IsMission m)
+    (r : IsReported written flushed faults m plan.sections old mid before middle net section)
+    (steps : TakesAtMost net.store.shape net.store.box (told_queries plan.tail (take section.upto m.items)) middle now)
     (spent : HandsWhere section.end.answer section.number section.end.began net e.spent) where
   answered : section.end.answer ≡ r.last.answer
   answered = sym (ap (λ (d : Section). d.answer) r.here)
@@ -153,6 +157,17 @@ module _ {K : Type 0} (written : K → Option (List ℕ)) (flushed : K → Optio
       (hands-spent m plan.sections.budget (length r.earlier + 1) r.last net section.end.began section.end.answer e.spent (ap (λ (d : Section). d.box) r.here) r.holds.shape (sym (ap (λ (d : Section). d.began) r.here))
       (subst (IsSpentAs m.cuts (take r.last.upto m.items) r.last.box r.last.began plan.sections.budget) (sym answered) (at-last (IsSectionOf m plan.sections.budget) r.earlier r.last r.sections.sections.each).cause)
       (subst (λ (n : ℕ). HandsWhere section.end.answer n section.end.began net e.spent) r.numbered spent))
+
+  all-steps : AreStepsOf m plan (r.earlier ++ r.last ∷ []) r.last (now - before)
+  all-steps d root =
+      let qs = told_queries plan.tail (take r.last.upto m.items) in
+      let upto : section.upto ≡ r.last.upto = sym (ap (λ (d : Section). d.upto) r.here) in
+      let box : net.store.box ≡ r.last.box = sym (ap (λ (d : Section). d.box) r.here) in
+      let told =
+      subst (λ (b : Option (List Span)). TakesAtMost (shape_by m.cuts (take r.last.upto m.items)) b qs middle now) box
+      (subst (λ (s : Shape). TakesAtMost s net.store.box qs middle now) r.holds.shape
+      (subst (λ (n : ℕ). TakesAtMost net.store.shape net.store.box (told_queries plan.tail (take n m.items)) middle now) upto steps)) in
+      omega (arith, told d root, r.cost)
 
   -- where all was written
   module _ (after : K) (new : Option (List ℕ)) (count : Option ℕ) (s : Status) (findings : Findings)
@@ -181,9 +196,10 @@ module _ {K : Type 0} (written : K → Option (List ℕ)) (flushed : K → Optio
     text : List ℕ
     text = run_text m plan (r.earlier ++ r.last ∷ []) t.told
 
-    pub reported : Reports m plan (written old) new count e
+    pub reported : Reports m plan (written old) new count e (now - before)
     unfolding text
     reported = record {
+      accepted = is;
       earlier = r.earlier;
       last = r.last;
       sections = r.sections;
@@ -198,12 +214,14 @@ module _ {K : Type 0} (written : K → Option (List ℕ)) (flushed : K → Optio
       net = subst (λ (u : Status). HandsNet plan.hands_out m r.last.box u e.net) (sym same) (hands-net plan.hands_out m r.last.box s net e.net net-of-all handed);
       found = subst (λ (u : Status). HandsFound plan.hands_out u (last_told t.told) e.found) (sym same)
           (hands-found plan.hands_out s findings.last (last_told t.told) e.found (λ settled. all-of findings.written t.last (λ err. no-fault settled (told err))) found);
+      cost = all-steps;
     }
 
   -- where memory ran out among the queries
   pub ran-out-after : (after : K) → AreCutShortAfter written flushed faults m plan section net.store.box mid after → e.status ≡ status.NoMemory → e.net ≡ None → e.found ≡ None
-      → RunsOutAfter m plan (written old) (written after) e
+      → RunsOutAfter m plan (written old) (written after) e (now - before)
   ran-out-after after t ended bare none = record {
+    accepted = is;
     ended = ended;
     earlier = r.earlier;
     last = r.last;
@@ -215,16 +233,18 @@ module _ {K : Type 0} (written : K → Option (List ℕ)) (flushed : K → Optio
     spent = hands-last;
     net = bare;
     found = none;
+    cost = all-steps;
   }
 
-pub ran-out : {K : Type 0} (written : K → Option (List ℕ)) (flushed : K → Option ℕ) (faults : K → ℕ) (m : Mission) (plan : Plan) (old new : K) (e : Ended)
-    → IsCutShort written flushed faults m plan.sections old new → e.status ≡ status.NoMemory → IsBare e → RunsOut m plan (written old) (written new) e
-ran-out written flushed faults m plan old new e short ended bare = record { ended = ended; bare = bare; done = short.done; sections = short.sections; unspent = short.unspent; writes = short.text.ok }
+pub ran-out : {K : Type 0} (written : K → Option (List ℕ)) (flushed : K → Option ℕ) (faults : K → ℕ) (m : Mission) (plan : Plan) (old new : K) (e : Ended) (before now : ℕ) → IsMission m
+    → IsCutShort written flushed faults m plan.sections old new before now → e.status ≡ status.NoMemory → IsBare e → RunsOut m plan (written old) (written new) e (now - before)
+ran-out written flushed faults m plan old new e before now is short ended bare =
+    record { accepted = is; ended = ended; bare = bare; done = short.done; sections = short.sections; unspent = short.unspent; writes = short.text.ok; cost = omega (arith, short.cost) }
 
 -- ---- a run that is spent
 
-reports-small : (m : Mission) (plan : Plan) (old new : Option (List ℕ)) (flushed : Option ℕ) (e : Ended) → Reports m plan old new flushed e → e.status ≡ status.Spent → plan.sections.budget ≤ 2000000000000000
-reports-small m plan old new flushed e r spent = by r.last.answer is.cause r.writes
+reports-small : (m : Mission) (plan : Plan) (old new : Option (List ℕ)) (flushed : Option ℕ) (e : Ended) (used : ℕ) → Reports m plan old new flushed e used → e.status ≡ status.Spent → plan.sections.budget ≤ 2000000000000000
+reports-small m plan old new flushed e used r spent = by r.last.answer is.cause r.writes
   where
     is : IsSectionOf m plan.sections.budget r.last
     is = at-last (IsSectionOf m plan.sections.budget) r.earlier r.last r.sections.sections.each
@@ -238,9 +258,9 @@ reports-small m plan old new flushed e r spent = by r.last.answer is.cause r.wri
     by answer.Empty cause (inr w) = absurd (let bad : status.Spent ≡ status.WriteFault = sym spent ∙ w.0 in cc bad)
 
 -- a budget that was spent is at most the greatest measure
-pub spent-small : (m : Mission) (plan : Plan) (old new : Option (List ℕ)) (flushed : Option ℕ) (e : Ended) → Stops status.NoMemory old new e ⊎ (RunsOut m plan old new e ⊎ RunsOutAfter m plan old new e ⊎ Reports m plan old new flushed e)
+pub spent-small : (m : Mission) (plan : Plan) (old new : Option (List ℕ)) (flushed : Option ℕ) (e : Ended) (used : ℕ) → Stops status.NoMemory old new e used ⊎ (RunsOut m plan old new e used ⊎ RunsOutAfter m plan old new e used ⊎ Reports m plan old new flushed e used)
     → e.status ≡ status.Spent → plan.sections.budget ≤ 2000000000000000
-spent-small m plan old new flushed e (inl stops) spent = absurd (let bad : status.Spent ≡ status.NoMemory = sym spent ∙ stops.0 in cc bad)
-spent-small m plan old new flushed e (inr (inl out)) spent = absurd (let bad : status.Spent ≡ status.NoMemory = sym spent ∙ out.ended in cc bad)
-spent-small m plan old new flushed e (inr (inr (inl out))) spent = absurd (let bad : status.Spent ≡ status.NoMemory = sym spent ∙ out.ended in cc bad)
-spent-small m plan old new flushed e (inr (inr (inr r))) spent = reports-small m plan old new flushed e r spent
+spent-small m plan old new flushed e used (inl stops) spent = absurd (let bad : status.Spent ≡ status.NoMemory = sym spent ∙ stops.0 in cc bad)
+spent-small m plan old new flushed e used (inr (inl out)) spent = absurd (let bad : status.Spent ≡ status.NoMemory = sym spent ∙ out.ended in cc bad)
+spent-small m plan old new flushed e used (inr (inr (inl out))) spent = absurd (let bad : status.Spent ≡ status.NoMemory = sym spent ∙ out.ended in cc bad)
+spent-small m plan old new flushed e used (inr (inr (inr r))) spent = reports-small m plan old new flushed e used r spent

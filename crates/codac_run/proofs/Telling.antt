@@ -1,7 +1,8 @@
 -- What telling of the queries leaves, with none asked for and with all.
-use Rattle.std.proofs.Common.{◌≡◌, ℕ, ◌++◌, ◌&&◌, inl, inr, Bool, true, false, List, [], Option, None, Result, Ok, Err, OnOk, IsErr, refl, sym, ap, subst, length, take, append-nil}
+use Rattle.std.proofs.Common.{◌≡◌, ℕ, ◌++◌, ◌&&◌, inl, inr, arith, Bool, true, false, List, [], Option, None, Result, Ok, Err, OnOk, IsErr, refl, sym, ap, subst, length, take, append-nil}
 use Rattle.std.specs.Prelude.{is_ok}
 use Rattle.tube_spec.specs.Span.{Span}
+use Rattle.tube_spec.specs.Shape.{Shape}
 use Rattle.tube_io.specs.Sends.{Sends}
 use Rattle.tube_io.specs.declared.whole.WriteFault.{WriteFault}
 use Rattle.tube_io.proofs.Sent.{sends_then}
@@ -10,6 +11,7 @@ use Rattle.mission_items.specs.declared.item.Item.{Item}
 use Rattle.mission_items.specs.declared.mission.Mission.{Mission}
 use Rattle.section_report.specs.declared.part.LastSection.{LastSection}
 use Rattle.mission_loops.specs.Queries.{queries}
+use Rattle.mission_loops.specs.Cost.{TakesAtMost}
 use Rattle.mission_loops.specs.Findings.{AreTold}
 use Rattle.mission_loops.specs.Writing.{AreWritten, AreCutShort}
 use Rattle.mission_loops.specs.Texts.{findings_text}
@@ -45,6 +47,16 @@ asks-none : (t : Tail) (items : List Item) (r : Result (Unit {0}) WriteFault) �
 asks-none tail.Nothing items r e ok = refl
 asks-none tail.Findings items (Ok v) e ok = absurd (cc e)
 asks-none tail.Findings items (Err f) e ok = absurd (cc ok)
+
+-- no step is taken where nothing is told
+pub steps-none : (s : Shape) (box : Option (List Span)) (qs : List Query) (now : ℕ) → TakesAtMost s box qs now now
+steps-none s box qs now d root = omega arith
+
+-- the queries that are told are those of the records
+pub steps-told : (plan : Plan) (section : LastSection) (m : Mission) (s : Shape) (box : Option (List Span)) (before now : ℕ) → (is_telling plan.tail && is_ok section.written) ≡ true
+    → TakesAtMost s box (queries (take section.upto m.items)) before now → TakesAtMost s box (told_queries plan.tail (take section.upto m.items)) before now
+steps-told plan section m s box before now both steps =
+    subst (λ (qs : List Query). TakesAtMost s box qs before now) (sym (asks-all plan.tail (take section.upto m.items) (both-of (is_telling plan.tail) (is_ok section.written) both).0)) steps
 
 module _ {K : Type 0} (written : K → Option (List ℕ)) (flushed : K → Option ℕ) (faults : K → ℕ) (m : Mission) (plan : Plan) (section : LastSection) (box : Option (List Span)) (old : K) where
   -- nothing is told

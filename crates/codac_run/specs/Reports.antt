@@ -1,5 +1,5 @@
 -- What a run writes and hands out, and what its report says.
-use Rattle.std.specs.Prelude.{◌≡◌, ℕ, ◌⊎◌, Bool, true, List, Option, Some, None, IsSomeAnd, option_map, IsFalse, Result, Ok, Err, All, [], ◌∷◌, ◌++◌, ◌+◌, ◌<◌, length}
+use Rattle.std.specs.Prelude.{◌≡◌, ℕ, ◌⊎◌, Bool, true, List, Option, Some, None, IsSomeAnd, option_map, IsFalse, Result, Ok, Err, All, [], ◌∷◌, ◌++◌, ◌+◌, ◌<◌, ◌≤◌, length}
 use Rattle.tube_spec.specs.Limits.{most_bytes}
 use Rattle.tube_spec.specs.Span.{Span}
 use Rattle.tube_spec.specs.Box.{measure_of}
@@ -11,19 +11,20 @@ use Rattle.ctc_network.specs.declared.answers.Settled.{Settled}
 use Rattle.ctc_network.specs.declared.answers.Settled.TheVariants as answer
 use Rattle.loop_report.specs.declared.found.Found.{Found}
 use Rattle.mission_items.specs.declared.mission.Mission.{Mission}
+use Rattle.mission_items.specs.Valid.{IsMission}
 use Rattle.mission_loops.specs.Texts.{findings_text, last_told}
 use Rattle.mission_net.specs.Building.{IsNetOf, IsSpentAs}
 use Rattle.mission_net.specs.Records.{shape_by}
 use Rattle.any_ctc.specs.declared.AnyCtc.{AnyCtc}
 use Rattle.cli_words.specs.Usage.{usage_line}
-use Rattle.section_report.specs.Sections.{Section, items_of, AreSections, AreSectionsTo, AreUnspent, AreAll}
+use Rattle.section_report.specs.Sections.{Section, items_of, AreSections, AreSectionsTo, AreUnspent, AreAll, sections_cost}
 use Rattle.section_report.specs.Texts.{verdict_of, report_text}
 use Rattle.tube_report.specs.declared.section.Verdict.{Verdict}
 use Rattle.tube_report.specs.declared.section.Verdict.TheVariants as verdict
 use Rattle.demo_spec.specs.Mission.{demo_mission}
 use Rattle.mission_log.specs.Log.{log_of}
 use Rattle.codac_run.specs.Hearing.{Hears, TellsLowest, judged, log_heard}
-use Rattle.codac_run.specs.Tails.{AreToldOf, AreAllTold}
+use Rattle.codac_run.specs.Tails.{AreToldOf, AreAllTold, AreStepsOf}
 use Rattle.codac_run.specs.declared.plan.Origin.{Origin}
 use Rattle.codac_run.specs.declared.plan.Origin.TheVariants as origin
 use Rattle.codac_run.specs.declared.plan.Plan.{Plan}
@@ -117,15 +118,21 @@ pub record IsBare (e : Ended) : Type 0 where
   pub net : e.net ≡ None
   pub found : e.found ≡ None
 
--- the run stopped with a status before anything was written
-abbrev pub Stops : Status → Option (List ℕ) → Option (List ℕ) → Ended → Type 0
-Stops s old new e = (e.status ≡ s) × (new ≡ old) × IsBare e
+-- the run stopped with a status before anything was written and any step was taken
+abbrev pub Stops : Status → Option (List ℕ) → Option (List ℕ) → Ended → ℕ → Type 0
+Stops s old new e used = (e.status ≡ s) × (new ≡ old) × IsBare e × (used ≡ 0)
+
+-- only a line was written, of this status, and no step was taken
+abbrev pub WritesLine : List ℕ → Status → Option (List ℕ) → Option (List ℕ) → Option ℕ → Ended → ℕ → Type 0
+WritesLine line s old new flushed e used = Writes line s old new flushed e.status × IsBare e × (used ≡ 0)
 
 -- ---- how a run ends
 
 -- Over an accepted log: its sections up to a last one, and over the box of this what is told of the queries, of which the texts were written. Where
--- anything is told, all sections are there. So what was written of it is a prefix of the whole report, also where the sink failed.
-pub record Reports (m : Mission) (plan : Plan) (old new : Option (List ℕ)) (flushed : Option ℕ) (e : Ended) : Type 0 where
+-- anything is told, all sections are there. So what was written of it is a prefix of the whole report, also where the sink failed. And so many steps
+-- were used, no more than they may cost.
+pub record Reports (m : Mission) (plan : Plan) (old new : Option (List ℕ)) (flushed : Option ℕ) (e : Ended) (used : ℕ) : Type 0 where
+  pub accepted : IsMission m
   pub earlier : List Section
   pub last : Section
   pub sections : AreSectionsTo m plan.sections.budget earlier last
@@ -137,6 +144,7 @@ pub record Reports (m : Mission) (plan : Plan) (old new : Option (List ℕ)) (fl
   pub spent : HandsSpent m plan.sections.budget (length earlier + 1) last last.answer e.spent
   pub net : HandsNet plan.hands_out m last.box e.status e.net
   pub found : HandsFound plan.hands_out e.status (last_told told) e.found
+  pub cost : AreStepsOf m plan (earlier ++ last ∷ []) last used
 
 -- What a run over an accepted log begins to write: the texts of its first sections, and after all of them of what is told of the first queries.
 pub record IsBeginning (m : Mission) (plan : Plan) (text : List ℕ) : Type 0 where
@@ -153,16 +161,19 @@ abbrev pub IsShorter : Mission → Plan → ℕ → Type 0
 IsShorter m plan n = (text : List ℕ) → IsBeginning m plan text → length text < n
 
 -- over an accepted log where memory ran out: the texts of its first sections were written, of which none was spent
-pub record RunsOut (m : Mission) (plan : Plan) (old new : Option (List ℕ)) (e : Ended) : Type 0 where
+pub record RunsOut (m : Mission) (plan : Plan) (old new : Option (List ℕ)) (e : Ended) (used : ℕ) : Type 0 where
+  pub accepted : IsMission m
   pub ended : e.status ≡ status.NoMemory
   pub bare : IsBare e
   pub done : List Section
   pub sections : AreSections m plan.sections.budget done
   pub unspent : AreUnspent done
   pub writes : Appends old new (report_text m plan.sections.brief done)
+  pub cost : used ≤ sections_cost m done
 
 -- over an accepted log where memory ran out among the queries: the texts of all sections and of the first queries were written
-pub record RunsOutAfter (m : Mission) (plan : Plan) (old new : Option (List ℕ)) (e : Ended) : Type 0 where
+pub record RunsOutAfter (m : Mission) (plan : Plan) (old new : Option (List ℕ)) (e : Ended) (used : ℕ) : Type 0 where
+  pub accepted : IsMission m
   pub ended : e.status ≡ status.NoMemory
   pub earlier : List Section
   pub last : Section
@@ -174,20 +185,21 @@ pub record RunsOutAfter (m : Mission) (plan : Plan) (old new : Option (List ℕ)
   pub spent : HandsSpent m plan.sections.budget (length earlier + 1) last last.answer e.spent
   pub net : e.net ≡ None
   pub found : e.found ≡ None
+  pub cost : AreStepsOf m plan (earlier ++ last ∷ []) last used
 
 -- over a log: its report, or the line that refuses it
-abbrev pub EndsBy : Result Mission (List ℕ) → Plan → Option (List ℕ) → Option (List ℕ) → Option ℕ → Ended → Type 0
-EndsBy (Ok m) plan old new flushed e = RunsOut m plan old new e ⊎ RunsOutAfter m plan old new e ⊎ Reports m plan old new flushed e
-EndsBy (Err line) plan old new flushed e = Writes line status.Refused old new flushed e.status × IsBare e
+abbrev pub EndsBy : Result Mission (List ℕ) → Plan → Option (List ℕ) → Option (List ℕ) → Option ℕ → Ended → ℕ → Type 0
+EndsBy (Ok m) plan old new flushed e used = RunsOut m plan old new e used ⊎ RunsOutAfter m plan old new e used ⊎ Reports m plan old new flushed e used
+EndsBy (Err line) plan old new flushed e used = WritesLine line status.Refused old new flushed e used
 
 -- over the demo mission, or over what was heard of the source, of which nothing is left then, unless the run stopped before
-abbrev pub EndsFrom : Origin → Plan → Option (List ℕ) → Option (List ℕ) → Option (List ℕ) → Option (List ℕ) → Option ℕ → Ended → Type 0
-EndsFrom (origin.Demo seed) plan left rest old new flushed e = Stops status.NoMemory old new e ⊎ EndsBy (Ok (demo_mission seed)) plan old new flushed e
-EndsFrom origin.Source plan left rest old new flushed e =
-    Stops status.NoMemory old new e ⊎ Stops status.ReadFault old new e
-    ⊎ ((heard : Option (List ℕ)) × Hears most_bytes left rest heard × TellsLowest heard × EndsBy (log_heard heard) plan old new flushed e)
+abbrev pub EndsFrom : Origin → Plan → Option (List ℕ) → Option (List ℕ) → Option (List ℕ) → Option (List ℕ) → Option ℕ → Ended → ℕ → Type 0
+EndsFrom (origin.Demo seed) plan left rest old new flushed e used = Stops status.NoMemory old new e used ⊎ EndsBy (Ok (demo_mission seed)) plan old new flushed e used
+EndsFrom origin.Source plan left rest old new flushed e used =
+    Stops status.NoMemory old new e used ⊎ Stops status.ReadFault old new e used
+    ⊎ ((heard : Option (List ℕ)) × Hears most_bytes left rest heard × TellsLowest heard × EndsBy (log_heard heard) plan old new flushed e used)
 
--- with wrong words the usage line; with right ones what their plan is for
-abbrev pub Ends : Option Plan → Option (List ℕ) → Option (List ℕ) → Option (List ℕ) → Option (List ℕ) → Option ℕ → Ended → Type 0
-Ends None left rest old new flushed e = Stops status.NoMemory old new e ⊎ (Writes usage_line status.Usage old new flushed e.status × IsBare e)
-Ends (Some plan) left rest old new flushed e = EndsFrom plan.origin plan left rest old new flushed e
+-- with wrong words the usage line; with right ones what their plan is for; and so many steps were used
+abbrev pub Ends : Option Plan → Option (List ℕ) → Option (List ℕ) → Option (List ℕ) → Option (List ℕ) → Option ℕ → Ended → ℕ → Type 0
+Ends None left rest old new flushed e used = Stops status.NoMemory old new e used ⊎ WritesLine usage_line status.Usage old new flushed e used
+Ends (Some plan) left rest old new flushed e used = EndsFrom plan.origin plan left rest old new flushed e used

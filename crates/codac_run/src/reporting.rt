@@ -1,11 +1,12 @@
 //! The report of an accepted log: its sections, and what is told of its queries.
 
-ghost use Rattle.std.specs.Prelude.{◌≡◌, ◌≤◌, ◌⊎◌, ◌&&◌, IfOk, OnErr, is_ok, length, take};
+ghost use Rattle.std.specs.Prelude.{◌≡◌, ◌-◌, ◌≤◌, ◌⊎◌, ◌&&◌, Ok, IfOk, OnErr, is_ok, length, take};
 ghost use Rattle.tube_io.specs.Causes.{Rose};
 ghost use Rattle.mission_items.specs.Valid.{IsMission};
 ghost use Rattle.mission_net.specs.Records.{shape_by, Encloses};
-ghost use Rattle.codac_run.specs.Reports.{status_of, Stops, RunsOut, RunsOutAfter, Reports, HandsWhere, HandsNetWhere, HandsFound, IsSettledOnly};
-ghost use Rattle.codac_run.specs.Tails.{is_telling};
+ghost use Rattle.codac_run.specs.Reports.{status_of, Stops, EndsBy, HandsWhere, HandsNetWhere, HandsFound, IsSettledOnly};
+ghost use Rattle.codac_run.specs.Tails.{is_telling, told_queries};
+ghost use Rattle.mission_loops.specs.Cost.{TakesAtMost};
 ghost use Rattle.codac_run.specs.Telling.{AreToldAfter, AreCutShortAfter};
 
 use crate::ended::{Ended, SpentAt, Status};
@@ -101,6 +102,7 @@ fn tell<K: Sink, L: Ledger>(
     requires encloses { Encloses mission.now.cuts (take section.now.upto mission.now.items) store.now.box }
     ensures told { IfOk result (λ findings. AreToldAfter K.written K.flushed K.faults mission.now plan.now section.now store.now.box sink.old sink.new findings) }
     ensures cut_short { OnErr result (AreCutShortAfter K.written K.flushed K.faults mission.now plan.now section.now store.now.box sink.old sink.new) }
+    ensures steps { TakesAtMost store.now.shape store.now.box (told_queries plan.now.tail (take section.now.upto mission.now.items)) steps.old steps.new }
 {
     if is_told(plan, section) {
         return write_findings(
@@ -128,7 +130,7 @@ pub(crate) fn report<K: Sink, L: Ledger>(
     steps: &mut Steps<L>,
 ) -> Ended
     requires { IsMission mission.now }
-    ensures ends { Stops Status.NoMemory (K.written sink.old) (K.written sink.new) result ⊎ (RunsOut mission.now plan.now (K.written sink.old) (K.written sink.new) result ⊎ RunsOutAfter mission.now plan.now (K.written sink.old) (K.written sink.new) result ⊎ Reports mission.now plan.now (K.written sink.old) (K.written sink.new) (K.flushed sink.new) result) }
+    ensures ends { Stops Status.NoMemory (K.written sink.old) (K.written sink.new) result (steps.new - steps.old) ⊎ EndsBy (Ok mission.now) plan.now (K.written sink.old) (K.written sink.new) (K.flushed sink.new) result (steps.new - steps.old) }
     ensures failed { result.status ≡ Status.WriteFault → Rose (K.faults sink.old) (K.faults sink.new) }
     ensures unflushed { result.status ≡ Status.WriteFault → K.flushed sink.new ≡ K.flushed sink.old }
 {

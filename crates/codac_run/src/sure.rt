@@ -1,6 +1,6 @@
 //! A run in memory, of which no read fails.
 
-ghost use Rattle.std.specs.Prelude.{◌≡◌, ◌<◌, ℕ, List, Option, [], Some, Ok, length};
+ghost use Rattle.std.specs.Prelude.{◌≡◌, ◌-◌, ◌<◌, ℕ, List, Option, [], Some, Ok, length};
 ghost use Rattle.mission_items.specs.declared.mission.Mission.{Mission};
 ghost use Rattle.section_report.specs.Sections.{StartsBelow};
 ghost use Rattle.codac_run.specs.declared.plan.Plan.{Plan};
@@ -27,7 +27,7 @@ pub fn run_in_memory<const N: usize, L: Ledger>(
     steps: &mut Steps<L>,
 ) -> (Ended, SureSink<N>)
     requires { 0 < most }
-    ensures ends { (rest : Option (List ℕ)) × Ends (planned words.now) (Some log.items) rest (Some []) (Some result.1.bytes) (Some result.1.flushed) result.0 }
+    ensures ends { (rest : Option (List ℕ)) × Ends (planned words.now) (Some log.items) rest (Some []) (Some result.1.bytes) (Some result.1.flushed) result.0 (steps.new - steps.old) }
     ensures read { result.0.status ≡ Status.ReadFault → ⊥ }
     ensures write { result.0.status ≡ Status.WriteFault → length result.1.bytes ≡ N }
     ensures unflushed { result.0.status ≡ Status.WriteFault → result.1.flushed ≡ 0 }

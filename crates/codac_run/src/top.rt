@@ -1,4 +1,4 @@
-ghost use Rattle.std.specs.Prelude.{◌≡◌, ◌<◌, ◌≤◌, ◌⊎◌, ℕ, Option, Some, None, Ok};
+ghost use Rattle.std.specs.Prelude.{◌≡◌, ◌-◌, ◌<◌, ◌≤◌, ◌⊎◌, ℕ, Option, Some, None, Ok};
 ghost use Rattle.tube_io.specs.Causes.{Rose};
 ghost use Rattle.mission_items.specs.declared.mission.Mission.{Mission};
 ghost use Rattle.section_report.specs.Sections.{StartsBelow};
@@ -30,7 +30,7 @@ fn hear_and_report<S: Source, K: Sink, L: Ledger>(
     sink: &mut K,
     steps: &mut Steps<L>,
 ) -> Ended
-    ensures ends { EndsFrom Origin.Source plan.now (S.left source.old) (S.left source.new) (K.written sink.old) (K.written sink.new) (K.flushed sink.new) result }
+    ensures ends { EndsFrom Origin.Source plan.now (S.left source.old) (S.left source.new) (K.written sink.old) (K.written sink.new) (K.flushed sink.new) result (steps.new - steps.old) }
     ensures enough { 2000000000000000 < plan.now.sections.budget → result.status ≡ Status.Spent → ⊥ }
     ensures read { result.status ≡ Status.ReadFault → Rose (S.faults source.old) (S.faults source.new) }
     ensures write { result.status ≡ Status.WriteFault → Rose (K.faults sink.old) (K.faults sink.new) }
@@ -52,7 +52,7 @@ fn make_and_report<K: Sink, L: Ledger>(
     sink: &mut K,
     steps: &mut Steps<L>,
 ) -> Ended
-    ensures ends { Stops Status.NoMemory (K.written sink.old) (K.written sink.new) result ⊎ EndsBy (Ok (demo_mission seed)) plan.now (K.written sink.old) (K.written sink.new) (K.flushed sink.new) result }
+    ensures ends { Stops Status.NoMemory (K.written sink.old) (K.written sink.new) result (steps.new - steps.old) ⊎ EndsBy (Ok (demo_mission seed)) plan.now (K.written sink.old) (K.written sink.new) (K.flushed sink.new) result (steps.new - steps.old) }
     ensures enough { 2000000000000000 < plan.now.sections.budget → result.status ≡ Status.Spent → ⊥ }
     ensures write { result.status ≡ Status.WriteFault → Rose (K.faults sink.old) (K.faults sink.new) }
     ensures unflushed { result.status ≡ Status.WriteFault → K.flushed sink.new ≡ K.flushed sink.old }
@@ -72,7 +72,7 @@ fn follow<S: Source, K: Sink, L: Ledger>(
     sink: &mut K,
     steps: &mut Steps<L>,
 ) -> Ended
-    ensures ends { Ends (Some plan.now) (S.left source.old) (S.left source.new) (K.written sink.old) (K.written sink.new) (K.flushed sink.new) result }
+    ensures ends { Ends (Some plan.now) (S.left source.old) (S.left source.new) (K.written sink.old) (K.written sink.new) (K.flushed sink.new) result (steps.new - steps.old) }
     ensures enough { 2000000000000000 < plan.now.sections.budget → result.status ≡ Status.Spent → ⊥ }
     ensures read { result.status ≡ Status.ReadFault → Rose (S.faults source.old) (S.faults source.new) }
     ensures write { result.status ≡ Status.WriteFault → Rose (K.faults sink.old) (K.faults sink.new) }
@@ -93,7 +93,7 @@ fn read_and_follow<S: Source, K: Sink, L: Ledger>(
     sink: &mut K,
     steps: &mut Steps<L>,
 ) -> Ended
-    ensures ends { Ends (planned words.now) (S.left source.old) (S.left source.new) (K.written sink.old) (K.written sink.new) (K.flushed sink.new) result }
+    ensures ends { Ends (planned words.now) (S.left source.old) (S.left source.new) (K.written sink.old) (K.written sink.new) (K.flushed sink.new) result (steps.new - steps.old) }
     ensures enough { (plan : Plan) → planned words.now ≡ Some plan → 2000000000000000 < plan.sections.budget → result.status ≡ Status.Spent → ⊥ }
     ensures read { result.status ≡ Status.ReadFault → Rose (S.faults source.old) (S.faults source.new) }
     ensures write { result.status ≡ Status.WriteFault → Rose (K.faults sink.old) (K.faults sink.new) }
@@ -121,8 +121,9 @@ pub fn run<S: Source, K: Sink, L: Ledger>(
     sink: &mut K,
     steps: &mut Steps<L>,
 ) -> Ended
-    // Enclosure, the greatest fixpoint, what is possible and proved, the bytes and the status: see `Ends`, and `Reports` in it.
-    ensures ends { Ends (planned words.now) (S.left source.old) (S.left source.new) (K.written sink.old) (K.written sink.new) (K.flushed sink.new) result }
+    // Enclosure, the greatest fixpoint, what is possible and proved, the bytes, the status, and how many steps were used: see `Ends`, and
+    // `Reports` in it.
+    ensures ends { Ends (planned words.now) (S.left source.old) (S.left source.new) (K.written sink.old) (K.written sink.new) (K.flushed sink.new) result (steps.new - steps.old) }
 
     // Which status comes for which words and which log: see the table `CanEnd`.
     ensures statuses { CanEnd (standing_of (planned words.now) (S.left source.old)) result.status }

@@ -5,7 +5,7 @@ use Rattle.std.proofs.lemmas.List.Elements.{All-get_or}
 use Rattle.tube_spec.specs.Span.{Span}
 use Rattle.mission_items.specs.declared.item.Item.{Item}
 use Rattle.mission_items.specs.declared.mission.Mission.{Mission}
-use Rattle.section_report.specs.Sections.{is_settle, settles_from, section_ends, Section, GoesOn, GoOn}
+use Rattle.section_report.specs.Sections.{is_settle, settles_from, section_ends, Section, GoesOn, GoOn, cost_of, costs_from}
 use Rattle.section_report.specs.Texts.{text_of, texts_from}
 
 -- ---- the places of the records that end sections
@@ -65,6 +65,11 @@ box-more box (e ∷ ds) d = box-more e.box ds d
 pub go_on-more : (m : Mission) (first : ℕ) (box : Option (List Span)) (ds : List Section) (d : Section) → GoOn m first box ds → GoesOn m (upto_after first ds) (box_after box ds) d → GoOn m first box (ds ++ d ∷ [])
 go_on-more m first box [] d h one = (one, tt)
 go_on-more m first box (e ∷ ds) d h one = (h.0, go_on-more m e.upto e.box ds d h.1 one)
+
+pub costs-more : (m : Mission) (first : ℕ) (box : Option (List Span)) (ds : List Section) (d : Section)
+    → costs_from m first box (ds ++ d ∷ []) ≡ costs_from m first box ds + cost_of m (upto_after first ds) (box_after box ds) d
+costs-more m first box [] d = omega arith
+costs-more m first box (e ∷ ds) d = omega (arith, costs-more m e.upto e.box ds d)
 
 pub texts-more : (m : Mission) (brief : Bool) (n : ℕ) (ds : List Section) (d : Section) → texts_from m brief n (ds ++ d ∷ []) ≡ texts_from m brief n ds ++ text_of m brief (n + length ds) d
 texts-more m brief n [] d = append-nil (text_of m brief n d) ∙ ap (λ (k : ℕ). text_of m brief k d) (sym (add-zero n))

@@ -1,7 +1,7 @@
 -- The sections of a mission: which records each takes, and what each is.
-use Rattle.std.specs.Prelude.{◌≡◌, ℕ, ◌+◌, ◌<◌, ◌≤◌, ◌⊎◌, Bool, true, false, List, [], ◌∷◌, ◌++◌, Option, Some, IsNone, length, map, take, drop, All, if◌then◌else◌}
+use Rattle.std.specs.Prelude.{◌≡◌, ℕ, ◌+◌, ◌<◌, ◌≤◌, ◌⊎◌, Bool, true, false, List, [], ◌∷◌, ◌++◌, Option, Some, IfSome, IsNone, length, map, take, drop, All, if◌then◌else◌}
 use Rattle.tube_spec.specs.Span.{Span}
-use Rattle.tube_spec.specs.Box.{box_more, measure_of}
+use Rattle.tube_spec.specs.Box.{AreBounded, IsBox, box_more, measure_of}
 use Rattle.tube_spec.specs.Owner.{start_of}
 use Rattle.ctc_network.specs.declared.answers.Settled.{Settled}
 use Rattle.ctc_network.specs.declared.answers.Settled.TheVariants as answer
@@ -10,6 +10,7 @@ use Rattle.mission_items.specs.declared.item.Item.TheVariants as item
 use Rattle.mission_items.specs.declared.mission.Mission.{Mission}
 use Rattle.mission_net.specs.Records.{owners_from, Encloses}
 use Rattle.mission_net.specs.Building.{IsSectionAs, IsSpentAs}
+use Rattle.mission_net.specs.Costs.{section_cost}
 use Rattle.mission_net.specs.declared.section.SectionEnd.{SectionEnd}
 
 -- ---- which records a section takes
@@ -45,12 +46,14 @@ abbrev pub section_of : ℕ → SectionEnd → Option (List Span) → Section
 section_of upto end box = record { upto = upto; answer = end.answer; box = box; began = end.began }
 
 -- What a section is, by its records alone: its box is the greatest common fixpoint, or empty exactly where there is none, or it was spent with its
--- cause and lost no common fixpoint. It encloses every assignment that satisfies the records. No measure is above 2,000,000 cells' greatest widths.
+-- cause and lost no common fixpoint. It encloses every assignment that satisfies the records. No measure is above 2,000,000 cells' greatest widths, and the cells of a box
+-- that is not empty have numbers, all within the bound.
 pub record IsSectionOf (m : Mission) (budget : ℕ) (d : Section) : Type 0 where
   pub greatest : IsSectionAs m.cuts (items_of m d) d.box d.answer
   pub encloses : Encloses m.cuts (items_of m d) d.box
   pub cause : IsSpentAs m.cuts (items_of m d) d.box d.began budget d.answer
   pub small : d.began ≤ 2000000000000000
+  pub proper : IfSome d.box (λ xs. IsBox xs × AreBounded xs)
 
 -- the box at which a section starts: that of the section before, which took the first records, with the new cells at their declared ranges
 abbrev pub started_box : Mission → ℕ → Option (List Span) → ℕ → Option (List Span)
@@ -65,6 +68,18 @@ pub record GoesOn (m : Mission) (first : ℕ) (box : Option (List Span)) (d : Se
 abbrev pub GoOn : Mission → ℕ → Option (List Span) → List Section → Type 0
 GoOn m first box [] = Unit {0}
 GoOn m first box (d ∷ ds) = GoesOn m first box d × GoOn m d.upto d.box ds
+
+-- how many steps a section may take that goes on from the one before it
+abbrev pub cost_of : Mission → ℕ → Option (List Span) → Section → ℕ
+cost_of m first box d = section_cost m.cuts m.items first d.upto (started_box m first box d.upto) d.box
+
+abbrev pub costs_from : Mission → ℕ → Option (List Span) → List Section → ℕ
+costs_from m first box [] = 0
+costs_from m first box (d ∷ ds) = cost_of m first box d + costs_from m d.upto d.box ds
+
+-- How many steps the first sections of a mission may take, each of which goes on from the one before it.
+abbrev pub sections_cost : Mission → List Section → ℕ
+sections_cost m ds = costs_from m 0 (Some []) ds
 
 -- whether settling gave up
 abbrev pub is_spent : Settled → Bool

@@ -1,12 +1,12 @@
 //! One section: it is settled and written.
 
-ghost use Rattle.std.specs.Prelude.{◌≡◌, ◌+◌, ◌≤◌, ◌||◌, IfOk, OnOk, OnErr, IsFalse, IsNone, All, is_err, length, take};
+ghost use Rattle.std.specs.Prelude.{◌≡◌, ◌+◌, ◌≤◌, ◌||◌, IfOk, OnOk, OnErr, IsFalse, IsNone, IsSome, All, is_err, length, take};
 ghost use Rattle.tube_io.specs.Sends.{Sends};
 ghost use Rattle.mission_items.specs.Valid.{IsMission};
 ghost use Rattle.mission_net.specs.Records.{IsEnclosure};
 ghost use Rattle.mission_net.specs.Tables.{IsTableOf};
 ghost use Rattle.mission_net.specs.Building.{IsNetOf};
-ghost use Rattle.section_report.specs.Sections.{section_of, is_spent, IsSectionOf, GoesOn};
+ghost use Rattle.section_report.specs.Sections.{section_of, is_spent, IsSectionOf, GoesOn, cost_of};
 ghost use Rattle.section_report.specs.Texts.{text_of, verdict_of};
 
 use ctc_network::{Net, Order, Settled};
@@ -93,6 +93,10 @@ pub fn write_part<K: Sink, L: Ledger>(
     ensures goes_on { IfOk result (λ s. GoesOn mission.now part.first net.old.store.box (section_of part.upto s.end net.new.store.box)) }
     ensures resting { IfOk result (λ s. s.end.answer ≡ Settled.Fixpoint → All IsFalse net.new.waiting) }
     ensures unfired { IsNone net.old.store.box → steps.new ≡ steps.old }
+
+    // Where nobody waited before, it takes no more steps than the section may cost, and none where memory runs out.
+    ensures cost { IfOk result (λ s. (IsSome net.old.store.box → All IsFalse net.old.waiting) → steps.new ≤ steps.old + cost_of mission.now part.first net.old.store.box (section_of part.upto s.end net.new.store.box)) }
+    ensures unsettled { OnErr result (steps.new ≡ steps.old) }
 
     // Its text was written.
     ensures place { IfOk result (λ s. (s.number ≡ part.number) × (s.upto ≡ part.upto)) }

@@ -26,7 +26,8 @@ fn is_settle(item: &Item) -> bool
 ///
 /// Each section goes on from the box of the one before. A section that is spent is the last one, as is one whose writing fails; the
 /// section that is answered is the last one that was settled, and the net is that of its records at its box. After want of memory the
-/// sections before were written whole. Nothing is flushed.
+/// sections before were written whole. Nothing is flushed. In all it takes no more steps than the sections may cost: for each of their
+/// constraints one, and for each cell the width that it loses in a section times one more than how many constraints read it.
 pub fn write_sections<K: Sink, L: Ledger>(
     alloc: Global,
     mission: &Mission,
@@ -37,8 +38,8 @@ pub fn write_sections<K: Sink, L: Ledger>(
 ) -> Result<LastSection, NoMemory>
     requires mission { IsMission mission.now }
     requires fresh { net.old ≡ no_net mission.now.cuts }
-    ensures reported { IfOk result (λ section. IsReported K.written K.flushed K.faults mission.now choices sink.old sink.new net.new section) }
-    ensures cut_short { OnErr result (IsCutShort K.written K.flushed K.faults mission.now choices sink.old sink.new) }
+    ensures reported { IfOk result (λ section. IsReported K.written K.flushed K.faults mission.now choices sink.old sink.new steps.old steps.new net.new section) }
+    ensures cut_short { OnErr result (IsCutShort K.written K.flushed K.faults mission.now choices sink.old sink.new steps.old steps.new) }
 {
     let items = mission.items.as_slice();
     let mut table = Made::new(alloc);

@@ -14,28 +14,27 @@ on-err : {S E : Type 0} (r : Result S E) (P : Type 0) → P → OnErr r P
 on-err (Ok s) P p = tt
 on-err (Err e) P p = p
 
-on-err-then : {S E : Type 0} (r : Result S E) (P Q : Type 0) → (P → Q) → OnErr r P → OnErr r Q
-on-err-then (Ok s) P Q f p = tt
-on-err-then (Err e) P Q f p = f p
+both-err : {S E W : Type 0} (r : Result S E) (P Q R : Type 0) → (P → Q → W → R) → OnErr r P → OnErr r Q → W → OnErr r R
+both-err (Ok s) P Q R f p q w = tt
+both-err (Err e) P Q R f p q w = f p q w
 
-if-ok-then : {S E : Type 0} (r : Result S E) (A : Type 0) (B C D F G H : S → Type 0) → OnOk r A → IfOk r B → IfOk r C → IfOk r D → IfOk r F → IfOk r G → ((s : S) → A → B s → C s → D s → F s → G s → H s) → IfOk r H
-if-ok-then (Ok s) A B C D F G H a b c d e g h = h s a b c d e g
-if-ok-then (Err e) A B C D F G H a b c d f g h = tt
+if-ok-then : {S E : Type 0} (r : Result S E) (A : Type 0) (B C D F G I H : S → Type 0) → OnOk r A → IfOk r B → IfOk r C → IfOk r D → IfOk r F → IfOk r G → IfOk r I → ((s : S) → A → B s → C s → D s → F s → G s → I s → H s) → IfOk r H
+if-ok-then (Ok s) A B C D F G I H a b c d e g i h = h s a b c d e g i
+if-ok-then (Err e) A B C D F G I H a b c d f g i h = tt
 
 pub loop-upto-init : goal.loop-upto-init
 loop-upto-init g c = record {
-  sections = written-none g.K.Sink.written g.K.Sink.flushed g.K.Sink.faults c.args.mission.now c.args.choices c.args.sink.now c.args.net.now c.requires.fresh;
+  sections = written-none g.K.Sink.written g.K.Sink.flushed g.K.Sink.faults c.args.mission.now c.args.choices c.args.sink.now c.args.steps.now c.args.net.now c.requires.fresh;
   table = c.new-table.ensures;
 }
 
 pub returns-in_err-section-clause-cut_short : goal.returns-in_err-section-clause-cut_short
 returns-in_err-section-clause-cut_short g c =
     let m = c.args.mission.now in
-    let chosen = c.args.choices in
-    let old = c.args.sink.now in
-    on-err c.from_residual.result (IsCutShort g.K.Sink.written g.K.Sink.flushed g.K.Sink.faults m chosen old c.write_part.new.sink)
-    (subst (IsCutShort g.K.Sink.written g.K.Sink.flushed g.K.Sink.faults m chosen old) (sym c.in_err-section.ensures.silent)
-    (cut-short g.K.Sink.written g.K.Sink.flushed g.K.Sink.faults m chosen old c.loop-upto.upto c.loop-upto.first c.loop-upto.number c.loop-upto.net c.loop-upto.sink c.loop-upto.invariant.sections))
+    let from = c.args.steps.now in
+    on-err c.from_residual.result (IsCutShort g.K.Sink.written g.K.Sink.flushed g.K.Sink.faults m c.args.choices c.args.sink.now c.write_part.new.sink from c.write_part.new.steps)
+    (cut-short g.K.Sink.written g.K.Sink.flushed g.K.Sink.faults m c.args.choices c.args.sink.now from c.loop-upto.upto c.loop-upto.first c.loop-upto.number c.loop-upto.net c.loop-upto.sink c.write_part.new.sink c.loop-upto.steps c.write_part.new.steps
+    c.in_err-section.ensures.silent c.in_err-section.ensures.unsettled c.loop-upto.invariant.sections)
 
 pub returns-then-ends_report-clause-reported : goal.returns-then-ends_report-clause-reported
 returns-then-ends_report-clause-reported g c =
@@ -44,8 +43,8 @@ returns-then-ends_report-clause-reported g c =
     let x = c.index-items-upto.result in
     let inside : i < length m.items = omega (arith, c.loop-upto-test.true, ap length c.as_slice-items.ensures) in
     let e = c.in_ok-section.ensures in
-    reported-early g.K.Sink.written g.K.Sink.flushed g.K.Sink.faults m c.args.choices c.args.sink.now i c.loop-upto.first c.loop-upto.number c.loop-upto.net c.write_part.new.net c.loop-upto.sink c.write_part.new.sink c.in_ok-section.section
-    c.loop-upto.invariant.sections e.holds e.section e.goes_on e.resting e.place e.writes
+    reported-early g.K.Sink.written g.K.Sink.flushed g.K.Sink.faults m c.args.choices c.args.sink.now c.args.steps.now i c.loop-upto.first c.loop-upto.number c.loop-upto.net c.write_part.new.net c.loop-upto.sink c.write_part.new.sink c.loop-upto.steps c.write_part.new.steps c.in_ok-section.section
+    c.loop-upto.invariant.sections e.holds e.section e.goes_on e.resting e.place e.writes e.cost
     x inside (longer c.as_slice-items.result.now m.items c.as_slice-items.ensures i x c.index-items-upto.is inside) (sym c.is_settle.ensures ∙ c.if-is_settle.true) (sym c.ends_report.ensures ∙ c.if-ends_report.true)
 
 pub loop-upto-preserved : goal.loop-upto-preserved
@@ -58,16 +57,16 @@ loop-upto-preserved g c =
     elim c.if-is_settle.branch [
       | then-is_settle+in_ok-section+else-ends_report w ↦
           let e = w.in_ok-section.ensures in
-          rw (w.first-is, w.number-is, w.net-is, w.sink-is, w.table-is)
+          rw (w.first-is, w.number-is, w.net-is, w.sink-is, w.steps-is, w.table-is)
           (record {
-            sections = written-more g.K.Sink.written g.K.Sink.flushed g.K.Sink.faults m c.args.choices c.args.sink.now i c.loop-upto.first c.loop-upto.number c.loop-upto.net w.write_part.new.net c.loop-upto.sink w.write_part.new.sink w.in_ok-section.section
-                c.loop-upto.invariant.sections e.holds e.section e.goes_on e.resting e.place e.writes
+            sections = written-more g.K.Sink.written g.K.Sink.flushed g.K.Sink.faults m c.args.choices c.args.sink.now c.args.steps.now i c.loop-upto.first c.loop-upto.number c.loop-upto.net w.write_part.new.net c.loop-upto.sink w.write_part.new.sink c.loop-upto.steps w.write_part.new.steps w.in_ok-section.section
+                c.loop-upto.invariant.sections e.holds e.section e.goes_on e.resting e.place e.writes e.cost
                 x inside more (sym c.is_settle.ensures ∙ w.if-is_settle.true) (sym w.ends_report.ensures ∙ w.if-ends_report.false);
             table = e.table;
           })
       | else-is_settle w ↦
-          rw (w.first-is, w.number-is, w.net-is, w.sink-is, w.table-is)
-          (record { sections = written-past g.K.Sink.written g.K.Sink.flushed g.K.Sink.faults m c.args.choices c.args.sink.now i c.loop-upto.first c.loop-upto.number c.loop-upto.net c.loop-upto.sink x inside more (sym c.is_settle.ensures ∙ w.if-is_settle.false) c.loop-upto.invariant.sections; table = c.loop-upto.invariant.table })
+          rw (w.first-is, w.number-is, w.net-is, w.sink-is, w.steps-is, w.table-is)
+          (record { sections = written-past g.K.Sink.written g.K.Sink.flushed g.K.Sink.faults m c.args.choices c.args.sink.now c.args.steps.now i c.loop-upto.first c.loop-upto.number c.loop-upto.net c.loop-upto.sink c.loop-upto.steps x inside more (sym c.is_settle.ensures ∙ w.if-is_settle.false) c.loop-upto.invariant.sections; table = c.loop-upto.invariant.table })
     ]
 
 pub returns-clause-reported : goal.returns-clause-reported
@@ -75,16 +74,16 @@ returns-clause-reported g c =
     let m = c.args.mission.now in
     let n = length c.as_slice-items.result.now in
     let end : c.loop-upto.upto ≡ n = omega (arith, c.loop-upto-test.false, c.loop-upto.auto.upto-end) in
-    let w = subst (λ (k : ℕ). IsWrittenTo g.K.Sink.written g.K.Sink.flushed g.K.Sink.faults m c.args.choices c.args.sink.now k c.loop-upto.first c.loop-upto.number c.loop-upto.net c.loop-upto.sink) end c.loop-upto.invariant.sections in
+    let w = subst (λ (k : ℕ). IsWrittenTo g.K.Sink.written g.K.Sink.flushed g.K.Sink.faults m c.args.choices c.args.sink.now c.args.steps.now k c.loop-upto.first c.loop-upto.number c.loop-upto.net c.loop-upto.sink c.loop-upto.steps) end c.loop-upto.invariant.sections in
     let e = c.write_part-2.ensures in
-    if-ok-then c.write_part-2.result _ _ _ _ _ _ _ e.holds e.section e.goes_on e.resting e.place e.writes
-    (λ s holds is goes resting numbered text. reported-last g.K.Sink.written g.K.Sink.flushed g.K.Sink.faults m c.args.choices c.args.sink.now n c.loop-upto.first c.loop-upto.number c.loop-upto.net c.write_part-2.new.net c.loop-upto.sink c.write_part-2.new.sink s
-    w holds is goes resting numbered text (ap length c.as_slice-items.ensures))
+    if-ok-then c.write_part-2.result _ _ _ _ _ _ _ _ e.holds e.section e.goes_on e.resting e.place e.writes e.cost
+    (λ s holds is goes resting numbered text cost. reported-last g.K.Sink.written g.K.Sink.flushed g.K.Sink.faults m c.args.choices c.args.sink.now c.args.steps.now n c.loop-upto.first c.loop-upto.number c.loop-upto.net c.write_part-2.new.net c.loop-upto.sink c.write_part-2.new.sink c.loop-upto.steps c.write_part-2.new.steps s
+    w holds is goes resting numbered text cost (ap length c.as_slice-items.ensures))
 
 pub returns-clause-cut_short : goal.returns-clause-cut_short
 returns-clause-cut_short g c =
     let m = c.args.mission.now in
-    let P = IsCutShort g.K.Sink.written g.K.Sink.flushed g.K.Sink.faults m c.args.choices c.args.sink.now in
-    on-err-then c.write_part-2.result _ (P c.write_part-2.new.sink)
-    (λ same. subst P (sym same) (cut-short g.K.Sink.written g.K.Sink.flushed g.K.Sink.faults m c.args.choices c.args.sink.now c.loop-upto.upto c.loop-upto.first c.loop-upto.number c.loop-upto.net c.loop-upto.sink c.loop-upto.invariant.sections))
-    c.write_part-2.ensures.silent
+    let from = c.args.steps.now in
+    both-err c.write_part-2.result _ _ (IsCutShort g.K.Sink.written g.K.Sink.flushed g.K.Sink.faults m c.args.choices c.args.sink.now c.write_part-2.new.sink from c.write_part-2.new.steps)
+    (cut-short g.K.Sink.written g.K.Sink.flushed g.K.Sink.faults m c.args.choices c.args.sink.now from c.loop-upto.upto c.loop-upto.first c.loop-upto.number c.loop-upto.net c.loop-upto.sink c.write_part-2.new.sink c.loop-upto.steps c.write_part-2.new.steps)
+    c.write_part-2.ensures.silent c.write_part-2.ensures.unsettled c.loop-upto.invariant.sections

@@ -6,6 +6,6 @@ use Rattle.section_report.proofs.report.write_sections.Given as goal
 -- the sections before were written, and the table is that of their records
 abbrev pub invariant-loop-upto : goal.invariant-loop-upto
 invariant-loop-upto g l = record {
-  sections : IsWrittenTo g.K.Sink.written g.K.Sink.flushed g.K.Sink.faults l.mission l.choices l.fn.sink l.upto l.first l.number l.net l.sink;
+  sections : IsWrittenTo g.K.Sink.written g.K.Sink.flushed g.K.Sink.faults l.mission l.choices l.fn.sink l.fn.steps l.upto l.first l.number l.net l.sink l.steps;
   table : IsTableOf l.table (take l.first l.mission.items);
 }
