@@ -89,7 +89,7 @@ impl Contractor for Follow {
 // A contractor by which a cell lies within another one, if both are of the net.
 fn add_follow(net: &mut Net<Follow>, leader: u32, follower: u32) -> Result<CtcId, AddFault> {
     let cells = net.store().cells();
-    if leader >= cells || follower >= cells || net.len() >= 4_000_000_000 {
+    if leader >= cells || follower >= cells || net.numbers() >= 4_000_000_000 {
         return Err(AddFault::FootFull);
     }
     net.add(Follow {

@@ -1,5 +1,7 @@
 -- The calls of a net as events of a schedule.
-use Rattle.std.proofs.Common.{◌≡◌, ℕ, ◌<◌, Option, Some, List, [], ◌∷◌, ◌++◌, true, IfSome, refl, sym, ap, subst, ◌∙◌, length, slice_get}
+use Rattle.std.proofs.Common.{◌≡◌, ℕ, ◌<◌, Option, Some, List, [], ◌∷◌, ◌++◌, true, IfSome, refl, sym, ap, subst, ◌∙◌, arith, length, map, option_map, slice_get}
+use Rattle.std.proofs.lemmas.List.{map-append, length-map}
+use Rattle.std.proofs.lemmas.Option.{slice_get-map}
 use Rattle.tube_spec.specs.Span.{Span, IsProper}
 use Rattle.tube_spec.specs.Shape.{Shape, IsShape, with_signal, with_var}
 use Rattle.tube_spec.specs.Projection.{Projection}
@@ -9,7 +11,7 @@ use Rattle.tube_store.specs.State.{State, IsStore, state_with}
 use Rattle.ctc_core.specs.declared.Revised.{Revised}
 use Rattle.ctc_core.specs.Answers.{Revises}
 use Rattle.ctc_core.proofs.Firing.{IsBox-of}
-use Rattle.ctc_network.specs.Nets.{NetState}
+use Rattle.ctc_network.specs.Nets.{NetState, of_place}
 use Rattle.ctc_network.specs.Schedule.{Network, Event, AddSignal, AddVar, AddContractor, Fire, IsFiring, IsNetworkOf, IsStep, after, grown}
 use Rattle.ctc_network.specs.Settling.{Fires}
 use Rattle.ctc_network.proofs.Replaying.{if-some}
@@ -43,21 +45,22 @@ module _ (C : Type 0) (projections : C → Shape → List Projection) (fits : C 
   )
 
   pub add-step : (n : Network C) (old new : NetState C) (c : C) → IsNetworkOf n old → fits c old.store.shape old.store.box
-      → new ≡ record old { contractors = old.contractors ++ c ∷ []; waiting = old.waiting ++ true ∷ [] } → IsStep projections fits n (AddContractor c) new
+      → new ≡ record old { contractors = old.contractors ++ Some c ∷ []; waiting = old.waiting ++ true ∷ [] } → IsStep projections fits n (AddContractor c) new
   add-step n old new c of fit e = (
     subst (λ (s : Shape). fits c s n.box) (sym of.shape) (subst (λ (b : Option (List Span)). fits c old.store.shape b) (sym of.box) fit),
-    subst (λ (v : NetState C). IsNetworkOf (after n (AddContractor c)) v) (sym e) (record { shape = of.shape; box = of.box; contractors = ap (λ (cs : List C). cs ++ c ∷ []) of.contractors }),
+    subst (λ (v : NetState C). IsNetworkOf (after n (AddContractor c)) v) (sym e) (record { shape = of.shape; box = of.box; contractors = map-append Some n.contractors (c ∷ []) ∙ ap (λ (cs : List (Option C)). cs ++ Some c ∷ []) of.contractors }),
   )
 
   pub fire-step : (n : Network C) (old new : NetState C) (k : ℕ) (answer : Revised) → IsNetworkOf n old → k < length old.contractors
-      → IfSome (slice_get old.contractors k) (λ c. Fires (projections c old.store.shape) old.store new.store answer) → new.contractors ≡ old.contractors → IsStep projections fits n (Fire k new.store.box) new
+      → IfSome (slice_get old.contractors k) (λ c. Fires (of_place projections c old.store.shape) old.store new.store answer) → new.contractors ≡ old.contractors → IsStep projections fits n (Fire k new.store.box) new
   fire-step n old new k answer of named fired same =
-      let there = get-there old.contractors k named in
-      let fires = if-some (λ (c : C). Fires (projections c old.store.shape) old.store new.store answer) (slice_get old.contractors k) there.0 there.1 fired in
+      let there = get-there n.contractors k (omega (arith, named, length-map n.contractors Some, ap length of.contractors)) in
+      let at : slice_get old.contractors k ≡ Some (Some there.0) = ap (λ (cs : List (Option C)). slice_get cs k) (sym of.contractors) ∙ slice_get-map Some n.contractors k ∙ ap (option_map Some) there.1 in
+      let fires = if-some (λ (c : Option C). Fires (of_place projections c old.store.shape) old.store new.store answer) (slice_get old.contractors k) (Some there.0) at fired in
       let firing = fires-firing (projections there.0 old.store.shape) old.store new.store answer fires in (
         (
           there.0,
-          ap (λ (cs : List C). slice_get cs k) of.contractors ∙ there.1,
+          there.1,
           subst (λ (s : Shape). IsFiring (projections there.0 s) n.box new.store.box) (sym of.shape) (subst (λ (b : Option (List Span)). IsFiring (projections there.0 old.store.shape) b new.store.box) (sym of.box) firing),
         ),
         record { shape = of.shape ∙ sym (fires_shape (projections there.0 old.store.shape) fires); box = refl; contractors = of.contractors ∙ sym same },

@@ -21,7 +21,7 @@ use Rattle.cell_readers.specs.Waking.{AreWoken, AreAtRest}
 use Rattle.cell_readers.proofs.Counts.{mark-other}
 use Rattle.cell_readers.proofs.Kept.{drained}
 use Rattle.cell_readers.proofs.Steps.{step}
-use Rattle.ctc_network.specs.Nets.{NetState, IsNet, IsDrained, IsSettlable, IsTableOf, IsKept, entries_of, readers_of, reads_by}
+use Rattle.ctc_network.specs.Nets.{Places, ArePlaces, IsDrained, IsSettlable, IsTableOf, IsKept, entries_of, readers_of, reads_by}
 use Rattle.ctc_network.specs.Noting.{Notes}
 use Rattle.ctc_network.specs.Settling.{Fires, IsWoken, IsNarrowedBy, NarrowerIn}
 use Rattle.ctc_network.proofs.Runs.{narrowed-none, narrowed-fire, same-fixpoint, get-all}
@@ -82,7 +82,7 @@ module _ (C : Type 0) (projections : C → Shape → List Projection) (scope : C
   -- The contractor with the number k is fired. The marks before it is noted are those of the net, but maybe for k.
   module _ (old new : State) (cs : List C) (ws ts : List Bool) (k : ℕ) (c : C) (before : IsSettlable projections scope fits (record { store = old; contractors = cs; waiting = ws })) (there : slice_get cs k ≡ Some c)
       (len : length ts ≡ length ws) (quiet : (j : ℕ) → j ≢ k → slice_get ts j ≡ Some false → slice_get ws j ≡ Some false) (again : set ts k false ≡ set ws k false) where
-    abbrev net : NetState C
+    abbrev net : Places C
     net = record { store = old; contractors = cs; waiting = ws }
 
     -- where the box stayed

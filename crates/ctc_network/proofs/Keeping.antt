@@ -14,7 +14,7 @@ use Rattle.tube_spec.proofs.Hulls.{owner-extends}
 use Rattle.tube_store.specs.State.{State, IsStore, state_with}
 use Rattle.cell_readers.specs.Entries.{Table, AreReaders}
 use Rattle.cell_readers.specs.Waking.{AreAtRest}
-use Rattle.ctc_network.specs.Nets.{IsNet, IsDrained, IsSettlable, IsTableOf, IsKept, entries_of}
+use Rattle.ctc_network.specs.Nets.{ArePlaces, IsDrained, IsSettlable, IsTableOf, IsKept, entries_of}
 use Rattle.ctc_network.proofs.Runs.{get-all}
 use Rattle.ctc_network.proofs.Waking.{sum-scopes}
 
@@ -51,9 +51,9 @@ rest-set {C} projections cs ws box i c rest at fix k d e f =
 module _ (C : Type 0) (projections : C → Shape → List Projection) (scope : C → Shape → List ℕ) (fits : C → Shape → Option (List Span) → Type 0)
     (fits_below : (c : C) (s : Shape) (a b : Option (List Span)) → IsBelowBox a b → fits c s b → fits c s a) where
   -- with other marks, and a store that lies below
-  pub with-marks : (old new : State) (cs : List C) (ws vs : List Bool) → IsNet projections scope fits (record { store = old; contractors = cs; waiting = ws })
+  pub with-marks : (old new : State) (cs : List C) (ws vs : List Bool) → ArePlaces projections scope fits (record { store = old; contractors = cs; waiting = ws })
       → IsStore new → new.shape ≡ old.shape → IsBelowBox new.box old.box → length vs ≡ length ws → AreAtRest (λ x. projections x new.shape) cs vs new.box
-      → IsNet projections scope fits (record { store = new; contractors = cs; waiting = vs })
+      → ArePlaces projections scope fits (record { store = new; contractors = cs; waiting = vs })
   with-marks old new cs ws vs net store shape below len rest = record {
     store = store;
     few = net.few;
@@ -162,7 +162,7 @@ module _ (C : Type 0) (projections : C → Shape → List Projection) (scope : C
       table_of = subst (λ (scopes : List (List ℕ)). IsTableOf scopes table entries) (sym same) kept.table_of;
     }
       where
-        net : IsNet projections scope fits (record { store = old; contractors = cs; waiting = ws })
+        net : ArePlaces projections scope fits (record { store = old; contractors = cs; waiting = ws })
         net = kept.state.net
 
         t : Shape

@@ -1,6 +1,7 @@
 pub mod Ends
 pub mod Events
 pub mod Firing
+pub mod Holes
 pub mod Keeping
 pub mod Replaying
 pub mod Runs

@@ -18,7 +18,7 @@ use Rattle.ctc_core.specs.declared.Revised.TheVariants.{Same, Narrowed}
 use Rattle.ctc_core.proofs.Composing.{fixpoint-left, fixpoint-right}
 use Rattle.ctc_core.proofs.Firing.{IsBox-of}
 use Rattle.cell_readers.specs.Waking.{AreAtRest}
-use Rattle.ctc_network.specs.Nets.{NetState, IsNet}
+use Rattle.ctc_network.specs.Nets.{Places, ArePlaces}
 use Rattle.ctc_network.specs.Settling.{IsNarrowedBy, SettlesAs}
 use Rattle.ctc_network.specs.declared.answers.Settled.TheVariants.{Fixpoint}
 use Rattle.ctc_network.specs.declared.answers.Settled.TheVariants as ends
@@ -126,8 +126,8 @@ settled-empty f cs budget old new n none = (none, at new.box none n.keeps)
     at (Some xs) none keeps = absurd (cc)
 
 -- the same of a net
-pub net-fixpoint : {C : Type 0} (projections : C → Shape → List Projection) (scope : C → Shape → List ℕ) (fits : C → Shape → Option (List Span) → Type 0) (cs : List C) (budget : ℕ) (old : State) (n : NetState C)
-    → n.contractors ≡ cs → IsNarrowedBy (flat_map (λ c. projections c old.shape) cs) old n.store → IsSome n.store.box → IsNet projections scope fits n → All IsFalse n.waiting
+pub net-fixpoint : {C : Type 0} (projections : C → Shape → List Projection) (scope : C → Shape → List ℕ) (fits : C → Shape → Option (List Span) → Type 0) (cs : List C) (budget : ℕ) (old : State) (n : Places C)
+    → n.contractors ≡ cs → IsNarrowedBy (flat_map (λ c. projections c old.shape) cs) old n.store → IsSome n.store.box → ArePlaces projections scope fits n → All IsFalse n.waiting
     → SettlesAs (λ c. projections c old.shape) cs budget old n.store Fixpoint
 net-fixpoint {C} projections scope fits cs budget old n same narrowed some net quiet =
     settled-fixpoint (λ c. projections c old.shape) cs n.waiting budget old n.store narrowed net.store some (net.beside ∙ ap length same)

@@ -34,7 +34,7 @@ set-again (w ∷ ws) (suc k) b d = ap (λ (l : List Bool). w ∷ l) (set-again w
 pub inside-there : {C : Type 0} (cs : List C) (k : ℕ) (c : C) → k < length cs → c ≡ get_or cs k c → slice_get cs k ≡ Some c
 inside-there cs k c l e = slice_get_read cs (length cs) k c refl l e
 
-or-cases : (a b : Bool) → (a || b) ≡ true → (a ≡ true) ⊎ (b ≡ true)
+pub or-cases : (a b : Bool) → (a || b) ≡ true → (a ≡ true) ⊎ (b ≡ true)
 or-cases true b e = inl refl
 or-cases false b e = inr e
 
@@ -56,11 +56,11 @@ first-or-later : (p : ℕ → Bool) (x : ℕ) (cells : List ℕ) (b : Bool) → 
 first-or-later p x cells true f e later = (x, (0, omega arith, refl), f)
 first-or-later p x cells false f e later = let h = later e in (h.0, (suc h.1.0, omega (arith, h.1.1), h.1.2), h.2)
 
-any-there : (p : ℕ → Bool) (cells : List ℕ) → list_any p cells ≡ true → (k : ℕ) × Contains cells k × (p k ≡ true)
+pub any-there : (p : ℕ → Bool) (cells : List ℕ) → list_any p cells ≡ true → (k : ℕ) × Contains cells k × (p k ≡ true)
 any-there p [] e = absurd (cc)
 any-there p (x ∷ cells) e = first-or-later p x cells (p x) refl e (any-there p cells)
 
-same_number : (a b : ℕ) → nat_eq a b ≡ true → a ≡ b
+pub same_number : (a b : ℕ) → nat_eq a b ≡ true → a ≡ b
 same_number a b e = grind (arith, e)
 
 module _ {C : Type 0} (scope : C → Shape → List ℕ) (s : Shape) (cs : List C) where

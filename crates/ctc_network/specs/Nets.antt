@@ -1,5 +1,5 @@
 -- What contracts see of a net.
-use Rattle.std.specs.Prelude.{◌≡◌, ℕ, ◌≤◌, Option, List, [], Bool, map, length, All, IfSome, sum_by, count_by}
+use Rattle.std.specs.Prelude.{◌≡◌, ℕ, ◌≤◌, Option, Some, None, List, [], Bool, true, map, length, All, IfSome, IsSome, IsSomeAnd, is_some, sum_by, count_by, slice_get}
 use Rattle.tube_spec.specs.Limits.{most_reads}
 use Rattle.tube_spec.specs.Span.{Span}
 use Rattle.tube_spec.specs.Shape.{Shape}
@@ -8,11 +8,37 @@ use Rattle.tube_store.specs.State.{State, IsStore, no_cells}
 use Rattle.cell_readers.specs.Entries.{Table, AreReaders, reads_cell}
 use Rattle.cell_readers.specs.Waking.{AreAtRest}
 
--- the store, the contractors under their numbers, and beside each whether it waits
-pub record NetState (C : Type 0) : Type 0 where
+-- the store, what stands under each number that was given, and beside it whether it waits
+pub record Places (K : Type 0) : Type 0 where
   pub store : State
-  pub contractors : List C
+  pub contractors : List K
   pub waiting : List Bool
+
+-- A net: under each number that was given stands a contractor, or none where it was taken out.
+abbrev pub NetState : Type 0 → Type 0
+NetState C = Places (Option C)
+
+-- what a contractor has at its place: its projections, or its scope; a place with none has nothing
+abbrev pub of_place : {C X : Type 0} → (C → Shape → List X) → Option C → Shape → List X
+of_place f None s = []
+of_place f (Some c) s = f c s
+
+-- a contractor fits at its place; a place with none fits always
+abbrev pub fits_place : {C : Type 0} → (C → Shape → Option (List Span) → Type 0) → Option C → Shape → Option (List Span) → Type 0
+fits_place fits None s b = Unit {0}
+fits_place fits (Some c) s b = fits c s b
+
+-- a number is of the net where a contractor stands under it
+abbrev pub IsThere : {C : Type 0} → List (Option C) → ℕ → Type 0
+IsThere cs k = IsSomeAnd (slice_get cs k) IsSome
+
+-- who waits is of the net
+abbrev pub AreThere : {C : Type 0} → List (Option C) → List Bool → Type 0
+AreThere cs waiting = (k : ℕ) → slice_get waiting k ≡ Some true → IsThere cs k
+
+-- how many contractors there are
+abbrev pub count_there : {C : Type 0} → List (Option C) → ℕ
+count_there cs = count_by is_some cs
 
 -- a net with no cell and no contractor
 abbrev pub no_net : {C : Type 0} → List ℕ → NetState C
@@ -30,8 +56,8 @@ readers_of scope s cs cell = count_by (λ c. reads_cell (scope c s) cell) cs
 abbrev pub entries_of : {C : Type 0} → (C → Shape → List ℕ) → Shape → List C → ℕ
 entries_of scope s cs = sum_by (λ c. length (scope c s)) cs
 
--- what holds of every net: above all, each contractor that does not wait leaves the box
-pub record IsNet {C : Type 0} (projections : C → Shape → List Projection) (scope : C → Shape → List ℕ) (fits : C → Shape → Option (List Span) → Type 0) (n : NetState C) : Type 0 where
+-- what holds of the places of every net: above all, each contractor that does not wait leaves the box
+pub record ArePlaces {C : Type 0} (projections : C → Shape → List Projection) (scope : C → Shape → List ℕ) (fits : C → Shape → Option (List Span) → Type 0) (n : Places C) : Type 0 where
   pub store : IsStore n.store
   pub few : length n.contractors ≤ 4000000000
   pub beside : length n.waiting ≡ length n.contractors
@@ -39,13 +65,18 @@ pub record IsNet {C : Type 0} (projections : C → Shape → List Projection) (s
   pub entries : entries_of scope n.store.shape n.contractors ≤ most_reads
   pub rest : AreAtRest (λ c. projections c n.store.shape) n.contractors n.waiting n.store.box
 
+-- what holds of every net: it is so of its places, and who waits is there
+pub record IsNet {C : Type 0} (projections : C → Shape → List Projection) (scope : C → Shape → List ℕ) (fits : C → Shape → Option (List Span) → Type 0) (n : NetState C) : Type 0 where
+  pub places : ArePlaces (of_place projections) (of_place scope) (fits_place fits) n
+  pub there : AreThere n.contractors n.waiting
+
 -- no cell is touched, unless the box is empty
 abbrev pub IsDrained : State → Type 0
 IsDrained s = IfSome s.box (λ xs. s.touched ≡ [])
 
--- a net between two calls: the readers of what became narrower were woken
-pub record IsSettlable {C : Type 0} (projections : C → Shape → List Projection) (scope : C → Shape → List ℕ) (fits : C → Shape → Option (List Span) → Type 0) (n : NetState C) : Type 0 where
-  pub net : IsNet projections scope fits n
+-- the places between two calls: the readers of what became narrower were woken
+pub record IsSettlable {C : Type 0} (projections : C → Shape → List Projection) (scope : C → Shape → List ℕ) (fits : C → Shape → Option (List Span) → Type 0) (n : Places C) : Type 0 where
+  pub net : ArePlaces projections scope fits n
   pub drained : IsDrained n.store
 
 -- the table has exactly the readers of each cell
@@ -55,8 +86,15 @@ pub record IsTableOf (scopes : List (List ℕ)) (table : Table) (entries : ℕ) 
   pub few : table.entries ≤ entries
   pub sum : entries ≡ sum_by (λ scope. length scope) scopes
 
--- The invariant of a net, with the table of the readers of its cells, and how many cells are read, those of each contractor added up.
+-- The invariant of the places, with the table of the readers of its cells, and how many cells are read, those of each contractor added up.
 pub record IsKept {C : Type 0} (projections : C → Shape → List Projection) (scope : C → Shape → List ℕ) (fits : C → Shape → Option (List Span) → Type 0)
-    (n : NetState C) (table : Table) (entries : ℕ) : Type 0 where
+    (n : Places C) (table : Table) (entries : ℕ) : Type 0 where
   pub state : IsSettlable projections scope fits n
   pub table_of : IsTableOf (map (λ c. scope c n.store.shape) n.contractors) table entries
+
+-- the invariant of a net, with how many contractors there are
+pub record IsNetKept {C : Type 0} (projections : C → Shape → List Projection) (scope : C → Shape → List ℕ) (fits : C → Shape → Option (List Span) → Type 0)
+    (n : NetState C) (table : Table) (entries many : ℕ) : Type 0 where
+  pub kept : IsKept (of_place projections) (of_place scope) (fits_place fits) n table entries
+  pub there : AreThere n.contractors n.waiting
+  pub count : many ≡ count_there n.contractors

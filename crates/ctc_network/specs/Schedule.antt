@@ -1,5 +1,5 @@
 -- Schedules: additions and firings in any order, over the definitions alone.
-use Rattle.std.specs.Prelude.{◌≡◌, ℕ, ◌-◌, ◌*◌, Option, Some, List, [], ◌∷◌, ◌++◌, IfSome, length, replicate, flat_map, slice_get}
+use Rattle.std.specs.Prelude.{◌≡◌, ℕ, ◌-◌, ◌*◌, Option, Some, List, [], ◌∷◌, ◌++◌, IfSome, length, map, replicate, flat_map, slice_get}
 use Rattle.tube_spec.specs.Span.{Span, IsProper}
 use Rattle.tube_spec.specs.Shape.{with_signal, with_var, no_shape, Shape, IsShape}
 use Rattle.tube_spec.specs.Box.{IsBox, IsBelowBox, box_more}
@@ -57,11 +57,11 @@ abbrev pub IsSchedule : {C : Type 0} → (C → Shape → List Projection) → (
 IsSchedule projections fits n [] = Unit {0}
 IsSchedule projections fits n (e ∷ es) = IsAllowed projections fits n e × IsSchedule projections fits (after n e) es
 
--- a net has the cells, the box and the contractors of a network
+-- a net has the cells, the box and the contractors of a network, and none was taken out
 pub record IsNetworkOf {C : Type 0} (n : Network C) (net : NetState C) : Type 0 where
   pub shape : n.shape ≡ net.store.shape
   pub box : n.box ≡ net.store.box
-  pub contractors : n.contractors ≡ net.contractors
+  pub contractors : map Some n.contractors ≡ net.contractors
 
 -- the event is allowed, and the net is what it makes of the network
 abbrev pub IsStep : {C : Type 0} → (C → Shape → List Projection) → (C → Shape → Option (List Span) → Type 0) → Network C → Event C → NetState C → Type 0

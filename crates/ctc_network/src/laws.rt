@@ -1,6 +1,6 @@
 //! What holds of additions and firings in every order.
 
-ghost use Rattle.std.specs.Prelude.{◌≡◌, ◌<◌, ◌++◌, [], ◌∷◌, ℕ, List, true, length, IfSome, slice_get};
+ghost use Rattle.std.specs.Prelude.{◌≡◌, ◌<◌, ◌++◌, [], ◌∷◌, ℕ, List, Some, true, length, IfSome, slice_get};
 ghost use Rattle.tube_spec.specs.Span.{Span, IsProper};
 ghost use Rattle.tube_spec.specs.Projection.{Projection};
 ghost use Rattle.tube_spec.specs.Shape.{IsShape};
@@ -8,7 +8,7 @@ ghost use Rattle.tube_spec.specs.Owner.{SignalIn, VariableIn};
 ghost use Rattle.tube_store.specs.State.{State, IsStore, state_with};
 ghost use Rattle.ctc_core.specs.declared.Revised.{Revised};
 ghost use Rattle.ctc_core.specs.Answers.{Revises};
-ghost use Rattle.ctc_network.specs.Nets.{NetState};
+ghost use Rattle.ctc_network.specs.Nets.{NetState, of_place};
 ghost use Rattle.ctc_network.specs.Schedule.{Event, Network, AddSignal, AddVar, AddContractor, Fire, IsFiring, IsNetworkOf, IsStep, no_network, after_all, IsSchedule, KeepsDeclared, IsGreatestAtRest};
 ghost use Rattle.ctc_network.specs.Sections.{SectionKeeps, SectionGreatest};
 ghost use Rattle.ctc_network.specs.Settling.{Fires};
@@ -37,9 +37,9 @@ pub fn event_law<C: Contractor>()
     ensures add_var { (n : Network C) (old new : NetState C) (range : Span) → IsNetworkOf n old → IsProper range → IsStore new.store
         → new ≡ record old { store = state_with old.store (VariableIn range) } → IsStep C.projections C.fits n (AddVar range) new }
     ensures add { (n : Network C) (old new : NetState C) (c : C) → IsNetworkOf n old → C.fits c old.store.shape old.store.box
-        → new ≡ record old { contractors = old.contractors ++ c ∷ []; waiting = old.waiting ++ true ∷ [] } → IsStep C.projections C.fits n (AddContractor c) new }
+        → new ≡ record old { contractors = old.contractors ++ Some c ∷ []; waiting = old.waiting ++ true ∷ [] } → IsStep C.projections C.fits n (AddContractor c) new }
     ensures fire { (n : Network C) (old new : NetState C) (k : ℕ) (answer : Revised) → IsNetworkOf n old → k < length old.contractors
-        → IfSome (slice_get old.contractors k) (λ c. Fires (C.projections c old.store.shape) old.store new.store answer)
+        → IfSome (slice_get old.contractors k) (λ c. Fires (of_place C.projections c old.store.shape) old.store new.store answer)
         → new.contractors ≡ old.contractors → IsStep C.projections C.fits n (Fire k new.store.box) new }
 {}
 

@@ -17,6 +17,7 @@ mod answers;
 mod laws;
 mod net;
 mod noting;
+mod places;
 
 pub use answers::{AddFault, CtcId, Order, Settled};
 pub use laws::{event_law, schedule_law, section_law};

@@ -9,11 +9,12 @@ ghost use Rattle.tube_spec.specs.Fixpoint.{IsFixpoint};
 ghost use Rattle.tube_store.specs.State.{State, state_with};
 ghost use Rattle.ctc_core.specs.Answers.{MatchRevised};
 ghost use Rattle.cell_readers.specs.Costs.{lost_cost, potential};
-ghost use Rattle.ctc_network.specs.Nets.{NetState, IsNet, IsSettlable, no_net, entries_of, readers_of};
+ghost use Rattle.ctc_network.specs.Nets.{NetState, ArePlaces, IsNet, IsSettlable, IsThere, of_place, fits_place, count_there, no_net, entries_of, readers_of};
 ghost use Rattle.ctc_network.specs.Settling.{Fires, IsWoken, IsNarrowedBy, SettlesAs, StillNarrows, contractors_at};
 
 use crate::answers::{AddFault, CtcId, Order, Settled};
 use crate::noting::note;
+use crate::places::{revise, still, there};
 use cell_readers::Readers;
 use ctc_core::{Contractor, Revised, start};
 use int_interval::Interval;
@@ -27,24 +28,30 @@ use tube_limits::MOST_READS;
 use tube_store::{CellId, SignalId, Store, StoreFault, VarId};
 
 /// A store and its contractors, each of which waits to be fired or leaves the box as it is.
+///
+/// A contractor stands under the number that it was given. A number is of the net where a contractor stands under it: it is given once,
+/// and a place may be empty.
 #[derive(Drop)]
 pub struct Net<C: Contractor + Drop> {
     store: Store,
-    contractors: Vec<C>,
+    // What stands under each number that was given.
+    contractors: Vec<Option<C>>,
     waiting: Waiting,
     readers: Readers,
     // How many cells the contractors read, those of each added up.
     entries: u32,
+    // How many contractors there are.
+    count: u32,
 }
 
 impl<C: Contractor + Drop> Model for Net<C> {
-    ghost use Rattle.ctc_network.specs.Nets.{NetState, IsKept};
+    ghost use Rattle.ctc_network.specs.Nets.{NetState, IsNetKept};
 
     ghost Value = { NetState C };
 
     ghost view = { λ n. record { store = n.store; contractors = n.contractors.items; waiting = n.waiting } };
 
-    ghost invariant = { λ n. IsKept C.projections C.scope C.fits (record { store = n.store; contractors = n.contractors.items; waiting = n.waiting }) n.readers n.entries };
+    ghost invariant = { λ n. IsNetKept C.projections C.scope C.fits (record { store = n.store; contractors = n.contractors.items; waiting = n.waiting }) n.readers n.entries n.count };
 }
 
 impl<C: Contractor + Drop> Net<C> {
@@ -60,6 +67,7 @@ impl<C: Contractor + Drop> Net<C> {
             waiting: Waiting::new(alloc),
             readers: Readers::new(alloc),
             entries: 0,
+            count: 0,
         }
     }
 
@@ -72,7 +80,7 @@ impl<C: Contractor + Drop> Net<C> {
 
     // The same, and that the readers of every narrower cell were woken.
     fn settlable(&self)
-        ensures { IsSettlable C.projections C.scope C.fits self.now }
+        ensures { IsSettlable (of_place C.projections) (of_place C.scope) (fits_place C.fits) self.now }
     {
         let _store = &self.store;
     }
@@ -93,14 +101,31 @@ impl<C: Contractor + Drop> Net<C> {
 
     /// How many contractors there are.
     pub fn len(&self) -> u32
+        ensures { result ≡ count_there self.now.contractors }
+    {
+        self.count
+    }
+
+    /// How many numbers were given: the next contractor is added under this one.
+    pub fn numbers(&self) -> u32
         ensures { result ≡ length self.now.contractors }
     {
         self.waiting.len()
     }
 
+    /// Whether a number is of this net: a contractor stands under it.
+    pub fn has(&self, id: CtcId) -> bool
+        ensures { IsTrue result ↔ IsThere self.now.contractors id.0 }
+    {
+        match self.contractors.get(id.0 as usize) {
+            Some(place) => place.is_some(),
+            None => false,
+        }
+    }
+
     /// How many contractors read a cell. A contractor that names it several times counts once.
     pub fn readers(&self, c: CellId) -> u32
-        ensures { result ≡ readers_of C.scope self.now.store.shape self.now.contractors c.0 }
+        ensures { result ≡ readers_of (of_place C.scope) self.now.store.shape self.now.contractors c.0 }
     {
         self.readers.count(c)
     }
@@ -112,7 +137,7 @@ impl<C: Contractor + Drop> Net<C> {
         self.waiting.count()
     }
 
-    /// Whether a contractor waits.
+    /// Whether the contractor with a number waits. A number of no contractor does not.
     pub fn waits(&self, id: CtcId) -> bool
         requires { id.0 < length self.now.contractors }
         ensures { slice_get self.now.waiting id.0 ≡ Some result }
@@ -122,10 +147,18 @@ impl<C: Contractor + Drop> Net<C> {
 
     /// The contractor with a number.
     pub fn contractor(&self, id: CtcId) -> &C
-        requires { id.0 < length self.now.contractors }
-        ensures { slice_get self.now.contractors id.0 ≡ Some result.now }
+        requires { IsThere self.now.contractors id.0 }
+        ensures { slice_get self.now.contractors id.0 ≡ Some (Some result.now) }
     {
-        &self.contractors[id.0 as usize]
+        there(&self.contractors[id.0 as usize])
+    }
+
+    // How many cells the contractors read, those of each added up.
+    fn entries(&self) -> u32
+        ensures sum { result ≡ entries_of (of_place C.scope) self.now.store.shape self.now.contractors }
+        ensures few { result ≤ most_reads }
+    {
+        self.entries
     }
 
     /// Adds a signal to the store, whose cells hold its declared range. The contractors stay, and who of them waits.
@@ -154,17 +187,18 @@ impl<C: Contractor + Drop> Net<C> {
         Ok(id)
     }
 
-    /// Adds a contractor that fits the store, under the next number. It waits.
+    /// Adds a contractor that fits the store, under the next number. It waits. A number is never given again.
     pub fn add(&mut self, c: C) -> Result<CtcId, AddFault>
         requires fits { C.fits c self.old.store.shape self.old.store.box }
         requires few { length self.old.contractors < 4000000000 }
         ensures id { IfOk result (λ id. id.0 ≡ length self.old.contractors) }
-        ensures ok { OnOk result (self.new ≡ record self.old { contractors = self.old.contractors ++ c ∷ []; waiting = self.old.waiting ++ true ∷ [] }) }
-        ensures full { IsErrOf result AddFault.FootFull ↔ (most_reads < entries_of C.scope self.old.store.shape self.old.contractors + length (C.scope c self.old.store.shape)) }
+        ensures ok { OnOk result (self.new ≡ record self.old { contractors = self.old.contractors ++ Some c ∷ []; waiting = self.old.waiting ++ true ∷ [] }) }
+        ensures full { IsErrOf result AddFault.FootFull ↔ (most_reads < entries_of (of_place C.scope) self.old.store.shape self.old.contractors + length (C.scope c self.old.store.shape)) }
         ensures err { OnErr result (self.new ≡ self.old) }
     {
         let reads = c.reads(&self.store);
-        if reads > MOST_READS - self.entries {
+        let entries = self.entries();
+        if reads > MOST_READS - entries {
             return Err(AddFault::FootFull);
         }
         let number = self.waiting.len();
@@ -173,22 +207,23 @@ impl<C: Contractor + Drop> Net<C> {
             .cover(self.store.cells() as usize, reads as usize)?;
         self.waiting.push_number()?;
         self.readers.add(&c, &self.store);
-        self.contractors.push_reserved(c);
+        self.contractors.push_reserved(Some(c));
         self.entries += reads;
+        self.count += 1;
         Ok(CtcId(number))
     }
 
     /// Fires a contractor once, whether it waits or not. Where the box stayed, it does not wait afterwards. Where cells were narrowed,
     /// it waits and so do exactly the contractors that read one of these cells, and those that waited before.
     pub fn fire<L: Ledger>(&mut self, id: CtcId, steps: &mut Steps<L>) -> Revised
-        requires { id.0 < length self.old.contractors }
-        ensures fired { IfSome (slice_get self.old.contractors id.0) (λ c. Fires (C.projections c self.old.store.shape) self.old.store self.new.store result) }
-        ensures narrowed { IsNarrowedBy (flat_map (λ c. C.projections c self.old.store.shape) self.old.contractors) self.old.store self.new.store }
+        requires { IsThere self.old.contractors id.0 }
+        ensures fired { IfSome (slice_get self.old.contractors id.0) (λ c. Fires (of_place C.projections c self.old.store.shape) self.old.store self.new.store result) }
+        ensures narrowed { IsNarrowedBy (flat_map (λ c. of_place C.projections c self.old.store.shape) self.old.contractors) self.old.store self.new.store }
         ensures contractors { self.new.contractors ≡ self.old.contractors }
-        ensures waiting { MatchRevised result (self.new.waiting ≡ slice_set self.old.waiting id.0 false) (IsWoken C.scope self.old.store.shape self.old.contractors self.old.store.box self.new.store.box id.0 self.old.waiting self.new.waiting) (self.new.waiting ≡ self.old.waiting) }
+        ensures waiting { MatchRevised result (self.new.waiting ≡ slice_set self.old.waiting id.0 false) (IsWoken (of_place C.scope) self.old.store.shape self.old.contractors self.old.store.box self.new.store.box id.0 self.old.waiting self.new.waiting) (self.new.waiting ≡ self.old.waiting) }
         ensures step { steps.new ≡ steps.old + 1 }
     {
-        let answer = self.contractors[id.0 as usize].revise(&mut self.store, steps);
+        let answer = revise(&self.contractors[id.0 as usize], &mut self.store, steps);
         note(
             answer,
             id.0,
@@ -202,9 +237,9 @@ impl<C: Contractor + Drop> Net<C> {
     /// Fires contractors one after another, whether they wait or not. `Empty` comes exactly where the box is empty at the end, and
     /// `Same` exactly where it is not and no cell was narrowed.
     pub fn replay<L: Ledger>(&mut self, ids: &[CtcId], steps: &mut Steps<L>) -> Revised
-        requires { All (λ id. id.0 < length self.old.contractors) ids.now }
-        ensures fired { Fires (flat_map (λ c. C.projections c self.old.store.shape) (contractors_at self.old.contractors ids.now)) self.old.store self.new.store result }
-        ensures narrowed { IsNarrowedBy (flat_map (λ c. C.projections c self.old.store.shape) self.old.contractors) self.old.store self.new.store }
+        requires { All (λ id. IsThere self.old.contractors id.0) ids.now }
+        ensures fired { Fires (flat_map (λ c. of_place C.projections c self.old.store.shape) (contractors_at self.old.contractors ids.now)) self.old.store self.new.store result }
+        ensures narrowed { IsNarrowedBy (flat_map (λ c. of_place C.projections c self.old.store.shape) self.old.contractors) self.old.store self.new.store }
         ensures contractors { self.new.contractors ≡ self.old.contractors }
         ensures steps { steps.new ≡ steps.old + length ids.now }
     {
@@ -229,10 +264,10 @@ impl<C: Contractor + Drop> Net<C> {
     pub fn settle<L: Ledger>(&mut self, order: Order, budget: u64, steps: &mut Steps<L>) -> Settled
         ensures contractors { self.new.contractors ≡ self.old.contractors }
         ensures shape { self.new.store.shape ≡ self.old.store.shape }
-        ensures settled { SettlesAs (λ c. C.projections c self.old.store.shape) self.old.contractors budget self.old.store self.new.store result }
+        ensures settled { SettlesAs (λ c. of_place C.projections c self.old.store.shape) self.old.contractors budget self.old.store self.new.store result }
         ensures resting { result ≡ Settled.Fixpoint → All IsFalse self.new.waiting }
         ensures emptied { IsNone self.old.store.box → (result ≡ Settled.Empty) × (self.new ≡ self.old) × (steps.new ≡ steps.old) }
-        ensures bound { steps.new ≤ steps.old + count_by (λ w. w) self.old.waiting + lost_cost (readers_of C.scope self.old.store.shape self.old.contractors) self.old.store.box self.new.store.box }
+        ensures bound { steps.new ≤ steps.old + count_by (λ w. w) self.old.waiting + lost_cost (readers_of (of_place C.scope) self.old.store.shape self.old.contractors) self.old.store.box self.new.store.box }
     {
         if self.store.is_empty() {
             return Settled::Empty;
@@ -245,9 +280,9 @@ impl<C: Contractor + Drop> Net<C> {
         requires { IsSome self.old.store.box }
         ensures contractors { self.new.contractors ≡ self.old.contractors }
         ensures shape { self.new.store.shape ≡ self.old.store.shape }
-        ensures settled { SettlesAs (λ c. C.projections c self.old.store.shape) self.old.contractors budget self.old.store self.new.store result }
+        ensures settled { SettlesAs (λ c. of_place C.projections c self.old.store.shape) self.old.contractors budget self.old.store self.new.store result }
         ensures resting { result ≡ Settled.Fixpoint → All IsFalse self.new.waiting }
-        ensures bound { steps.new ≤ steps.old + count_by (λ w. w) self.old.waiting + lost_cost (readers_of C.scope self.old.store.shape self.old.contractors) self.old.store.box self.new.store.box }
+        ensures bound { steps.new ≤ steps.old + count_by (λ w. w) self.old.waiting + lost_cost (readers_of (of_place C.scope) self.old.store.shape self.old.contractors) self.old.store.box self.new.store.box }
     {
         let start = self.store.measure();
         loop {
@@ -278,15 +313,15 @@ impl<C: Contractor + Drop> Net<C> {
     fn fire_next<L: Ledger>(&mut self, order: Order, steps: &mut Steps<L>) -> Option<Revised>
         requires { IsSome self.old.store.box }
         ensures contractors { self.new.contractors ≡ self.old.contractors }
-        ensures narrowed { IsNarrowedBy (flat_map (λ c. C.projections c self.old.store.shape) self.old.contractors) self.old.store self.new.store }
-        ensures net { IsNet C.projections C.scope C.fits self.new }
+        ensures narrowed { IsNarrowedBy (flat_map (λ c. of_place C.projections c self.old.store.shape) self.old.contractors) self.old.store self.new.store }
+        ensures net { ArePlaces (of_place C.projections) (of_place C.scope) (fits_place C.fits) self.new }
         ensures none { IsNone result → All IsFalse self.old.waiting × (self.new ≡ self.old) × (steps.new ≡ steps.old) }
         ensures says { IfSome result (λ x. MatchRevised x (IsSome self.new.store.box) (IsSome self.new.store.box) (IsNone self.new.store.box)) }
         ensures step { IfSome result (λ x. steps.new ≡ steps.old + 1) }
-        ensures falls { IfSome result (λ x. potential (readers_of C.scope self.old.store.shape self.old.contractors) self.new.waiting self.new.store.box + 1 ≤ potential (readers_of C.scope self.old.store.shape self.old.contractors) self.old.waiting self.old.store.box) }
+        ensures falls { IfSome result (λ x. potential (readers_of (of_place C.scope) self.old.store.shape self.old.contractors) self.new.waiting self.new.store.box + 1 ≤ potential (readers_of (of_place C.scope) self.old.store.shape self.old.contractors) self.old.waiting self.old.store.box) }
     {
         let number = order.take(&mut self.waiting)?;
-        let answer = self.contractors[number as usize].revise(&mut self.store, steps);
+        let answer = revise(&self.contractors[number as usize], &mut self.store, steps);
         note(
             answer,
             number,
@@ -302,8 +337,8 @@ impl<C: Contractor + Drop> Net<C> {
         requires { IsSome self.old.store.box }
         ensures store { self.new.store ≡ self.old.store }
         ensures contractors { self.new.contractors ≡ self.old.contractors }
-        ensures net { IsNet C.projections C.scope C.fits self.new }
-        ensures found { IfSome result (λ id. StillNarrows (λ c. C.projections c self.new.store.shape) self.new.contractors self.new.store.box id.0) }
+        ensures net { ArePlaces (of_place C.projections) (of_place C.scope) (fits_place C.fits) self.new }
+        ensures found { IfSome result (λ id. StillNarrows (λ c. of_place C.projections c self.new.store.shape) self.new.contractors self.new.store.box id.0) }
         ensures none { IsNone result → All IsFalse self.new.waiting }
         ensures steps { steps.new ≤ steps.old + count_by (λ w. w) self.old.waiting }
     {
@@ -320,14 +355,14 @@ impl<C: Contractor + Drop> Net<C> {
     fn try_next<L: Ledger>(&mut self, order: Order, steps: &mut Steps<L>) -> Option<Option<CtcId>>
         ensures store { self.new.store ≡ self.old.store }
         ensures contractors { self.new.contractors ≡ self.old.contractors }
-        ensures net { IsNet C.projections C.scope C.fits self.new }
-        ensures found { IfSome result (λ still. IfSome still (λ id. StillNarrows (λ c. C.projections c self.new.store.shape) self.new.contractors self.new.store.box id.0)) }
+        ensures net { ArePlaces (of_place C.projections) (of_place C.scope) (fits_place C.fits) self.new }
+        ensures found { IfSome result (λ still. IfSome still (λ id. StillNarrows (λ c. of_place C.projections c self.new.store.shape) self.new.contractors self.new.store.box id.0)) }
         ensures none { IsNone result → All IsFalse self.new.waiting × (steps.new ≡ steps.old) }
         ensures some { IfSome result (λ still. (0 < count_by (λ w. w) self.old.waiting) × (steps.new ≡ steps.old + 1)) }
         ensures rests { IfSome result (λ still. IsNone still → count_by (λ w. w) self.new.waiting + 1 ≡ count_by (λ w. w) self.old.waiting) }
     {
         let number = order.take(&mut self.waiting)?;
-        if self.contractors[number as usize].still(&self.store, steps) {
+        if still(&self.contractors[number as usize], &self.store, steps) {
             self.waiting.wake(number);
             return Some(Some(CtcId(number)));
         }

@@ -49,7 +49,7 @@ fn net_of(alloc: Global, size: u32) -> Option<Net<AnyCtc>> {
 
 // Adds the contractor that a word names.
 fn add(net: &mut Net<AnyCtc>, word: &str, size: u32) -> Option<()> {
-    if net.store().signals() < 2 || net.store().vars() < 2 || net.len() > 0 {
+    if net.store().signals() < 2 || net.store().vars() < 2 || net.numbers() > 0 {
         return None;
     }
     let (x, y, t, z) = (SignalId(0), SignalId(1), VarId(0), VarId(1));
@@ -74,7 +74,7 @@ fn fire_often<C: Contractor + Drop, L: Ledger>(net: &mut Net<C>, turns: u32, bla
     let mut steps = Steps::<L>::new(blank);
     let mut narrowed: u32 = 0;
     for _ in 0..turns {
-        if net.len() > 0 && net.fire(CtcId(0), &mut steps) == Revised::Narrowed {
+        if net.has(CtcId(0)) && net.fire(CtcId(0), &mut steps) == Revised::Narrowed {
             narrowed = narrowed.saturating_add(1);
         }
     }

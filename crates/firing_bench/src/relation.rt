@@ -91,7 +91,7 @@ pub(crate) fn net_of(alloc: Global, levels: u32) -> Option<Net<ExprCtc>> {
     let flat = Flat::new(alloc, &rel, &leaves).ok()?;
     let mut net: Net<ExprCtc> = Net::new(alloc, Grid::uniform(alloc, 1, 1).ok()?);
     net.add_var(Interval::new(-1, 1)?).ok()?;
-    if net.len() > 0 || !are_variables(net.store(), flat.leaves()) {
+    if net.numbers() > 0 || !are_variables(net.store(), flat.leaves()) {
         return None;
     }
     net.add(ExprCtc::new(Rc::new(alloc, flat).ok()?, Place::Once))

@@ -17,7 +17,8 @@ use Rattle.ctc_deriv.specs.Bounds.{each_below}
 use Rattle.any_ctc.specs.Constraints.{Constraint, reads_of, reads_in, IsOf}
 use Rattle.any_ctc.specs.declared.AnyCtc.{AnyCtc}
 use Rattle.any_ctc.specs.Contractors.{constraint_of}
-use Rattle.mission_net.specs.Building.{CanAdd, IsAdded}
+use Rattle.mission_net.specs.Building.{CanAdd, IsAdded, stands_for, constraints_in, each_alone}
+use Rattle.mission_net.proofs.Numbers.{added-in, added-count}
 
 -- ---- boxes with further cells
 
@@ -36,7 +37,7 @@ box_more-append (Some b) xs ys = ap Some (append_assoc b xs ys)
 -- ---- additions, one after another
 
 pub added-none : (a : NetState AnyCtc) → IsAdded [] [] a a
-added-none a = record { shape = refl; box = sym (box_more-none a.store.box); contractors = sym (append-nil (map constraint_of a.contractors)); waiting = sym (append-nil a.waiting) }
+added-none a = record { shape = refl; box = sym (box_more-none a.store.box); contractors = sym (append-nil (map stands_for a.contractors)); waiting = sym (append-nil a.waiting) }
 
 pub added-then : (os ps : List Owner) (cs ds : List Constraint) (a b c : NetState AnyCtc) → IsAdded os cs a b → IsAdded ps ds b c → IsAdded (os ++ ps) (cs ++ ds) a c
 added-then os ps cs ds a b c p q =
@@ -45,7 +46,8 @@ added-then os ps cs ds a b c p q =
       box = q.box ∙ ap₂ (λ (x : Option (List Span)) (g : List ℕ). box_more x (start_of g ps)) p.box grid
           ∙ box_more-append a.store.box (start_of a.store.shape.grid os) (start_of a.store.shape.grid ps)
           ∙ ap (box_more a.store.box) (sym (flat_map-append (declared_cells a.store.shape.grid) os ps));
-      contractors = q.contractors ∙ ap (λ (xs : List Constraint). xs ++ ds) p.contractors ∙ append_assoc (map constraint_of a.contractors) cs ds;
+      contractors = q.contractors ∙ ap (λ (xs : List (List Constraint)). xs ++ each_alone ds) p.contractors ∙ append_assoc (map stands_for a.contractors) (each_alone cs) (each_alone ds)
+          ∙ ap (λ (xs : List (List Constraint)). map stands_for a.contractors ++ xs) (sym (map-append (λ (c : Constraint). c ∷ []) cs ds));
       waiting = q.waiting ∙ ap (λ (xs : List Bool). xs ++ replicate (length ds) true) p.waiting ∙ append_assoc a.waiting (replicate (length cs) true) (replicate (length ds) true)
           ∙ ap (λ (xs : List Bool). a.waiting ++ xs) (replicate-append-replicate (length cs) (length ds) true ∙ ap (λ (n : ℕ). replicate n true) (sym (length-append cs ds)));
     }
@@ -59,25 +61,25 @@ pub added-owner : (o : Owner) (old new : NetState AnyCtc) → new ≡ record old
 added-owner o old new e = record {
   shape = ap (λ (n : NetState AnyCtc). n.store.shape) e;
   box = ap (λ (n : NetState AnyCtc). n.store.box) e ∙ ap (box_more old.store.box) (sym (append-nil (declared_cells old.store.shape.grid o)));
-  contractors = ap (λ (n : NetState AnyCtc). map constraint_of n.contractors) e ∙ sym (append-nil (map constraint_of old.contractors));
+  contractors = ap (λ (n : NetState AnyCtc). map stands_for n.contractors) e ∙ sym (append-nil (map stands_for old.contractors));
   waiting = ap (λ (n : NetState AnyCtc). n.waiting) e ∙ sym (append-nil old.waiting);
 }
 
 -- a further contractor, as the net adds it
-pub added-contractor : (c : AnyCtc) (old new : NetState AnyCtc) → new ≡ record old { contractors = old.contractors ++ c ∷ []; waiting = old.waiting ++ true ∷ [] } → IsAdded [] (constraint_of c ∷ []) old new
+pub added-contractor : (c : AnyCtc) (old new : NetState AnyCtc) → new ≡ record old { contractors = old.contractors ++ Some c ∷ []; waiting = old.waiting ++ true ∷ [] } → IsAdded [] (constraint_of c ∷ []) old new
 added-contractor c old new e = record {
   shape = ap (λ (n : NetState AnyCtc). n.store.shape) e;
   box = ap (λ (n : NetState AnyCtc). n.store.box) e ∙ sym (box_more-none old.store.box);
-  contractors = ap (λ (n : NetState AnyCtc). map constraint_of n.contractors) e ∙ map-append constraint_of old.contractors (c ∷ []);
+  contractors = ap (λ (n : NetState AnyCtc). map stands_for n.contractors) e ∙ map-append stands_for old.contractors (Some c ∷ []);
   waiting = ap (λ (n : NetState AnyCtc). n.waiting) e;
 }
 
 -- cells alone leave the contractors as they were
 pub none-few : (os : List Owner) (a b : NetState AnyCtc) → IsAdded os [] a b → length b.contractors ≡ length a.contractors
-none-few os a b p = let e = ap length (p.contractors ∙ append-nil (map constraint_of a.contractors)) in omega (arith, e, length-map a.contractors constraint_of, length-map b.contractors constraint_of)
+none-few os a b p = omega (arith, added-count os [] a b p)
 
-pub none-reads : (os : List Owner) (a b : NetState AnyCtc) → IsAdded os [] a b → reads_in b.store.shape.grid (map constraint_of b.contractors) ≡ reads_in a.store.shape.grid (map constraint_of a.contractors)
-none-reads os a b p = ap₂ reads_in (added-grid os [] a b p) (p.contractors ∙ append-nil (map constraint_of a.contractors))
+pub none-reads : (os : List Owner) (a b : NetState AnyCtc) → IsAdded os [] a b → reads_in b.store.shape.grid (constraints_in b) ≡ reads_in a.store.shape.grid (constraints_in a)
+none-reads os a b p = ap₂ reads_in (added-grid os [] a b p) (added-in os [] a b p ∙ append-nil (constraints_in a))
 
 -- ---- the room for further contractors
 
@@ -99,12 +101,11 @@ can-first cs ds a can = record {
 pub can-after : (cs es ds : List Constraint) (a b : NetState AnyCtc) → CanAdd (cs ++ ds) a → IsAdded [] es a b → length cs ≡ length es → ((g : List ℕ) → reads_in g cs ≡ reads_in g es) → CanAdd ds b
 can-after cs es ds a b can added size same_reads =
     let grid = a.store.shape.grid in
-    let count = ap length added.contractors in
-    let read : reads_in b.store.shape.grid (map constraint_of b.contractors) ≡ reads_in grid (map constraint_of a.contractors) + reads_in grid es =
-    ap₂ reads_in (added-grid [] es a b added) added.contractors ∙ sum_by-append (reads_of grid) (map constraint_of a.contractors) es in
+    let read : reads_in b.store.shape.grid (constraints_in b) ≡ reads_in grid (constraints_in a) + reads_in grid es =
+    ap₂ reads_in (added-grid [] es a b added) (added-in [] es a b added) ∙ sum_by-append (reads_of grid) (constraints_in a) es in
     let same : reads_in b.store.shape.grid ds ≡ reads_in grid ds = ap (λ (g : List ℕ). reads_in g ds) (added-grid [] es a b added) in record {
       of = subst (λ (s : Shape). All (IsOf s) ds) (sym added.shape) (All-rest (IsOf a.store.shape) cs ds can.of);
-      few = omega (arith, can.few, count, size, length-append cs ds, length-append (map constraint_of a.contractors) es, length-map a.contractors constraint_of, length-map b.contractors constraint_of);
+      few = omega (arith, can.few, added-count [] es a b added, size, length-append cs ds);
       reads = omega (arith, can.reads, read, same, same_reads grid, sum_by-append (reads_of grid) cs ds);
     }
 

@@ -1,6 +1,6 @@
 -- What building records leaves.
 use Rattle.std.proofs.Common.{◌≡◌, ℕ, ◌+◌, ◌<◌, ◌≤◌, Option, Some, None, List, [], ◌∷◌, ◌++◌, All, arith, refl, sym, ap, subst, ◌∙◌, length, map, take, drop, get_or, length-append, append-nil, append_assoc, add-zero, length-take-le, slice_index}
-use Rattle.std.proofs.lemmas.List.{drop-take, drop-append-le, length-map, take-append-drop, take-take, take_more}
+use Rattle.std.proofs.lemmas.List.{drop-take, drop-append-le, length-map, map-append, take-append-drop, take-take, take_more}
 use Rattle.std.proofs.lemmas.List.Sums.{sum_by-append}
 use Rattle.tube_spec.specs.Span.{Span, IsBounded}
 use Rattle.tube_spec.specs.Grid.{IsGrid, last_tick}
@@ -24,8 +24,8 @@ use Rattle.mission_net.specs.Records.{made, owners, owners_from, shape_by, start
 use Rattle.mission_net.specs.Tables.{IsTableOf, IsTaken, Table}
 use Rattle.any_ctc.specs.declared.AnyCtc.{AnyCtc}
 use Rattle.any_ctc.specs.Contractors.{constraint_of}
-use Rattle.mission_net.specs.Building.{CanBuild, HasBeacon, IsAdded, IsBindable, IsNetOf, IsTimed}
-use Rattle.mission_net.proofs.Numbers.{net-constraints, numbered}
+use Rattle.mission_net.specs.Building.{CanBuild, HasBeacon, IsAdded, IsBindable, IsNetOf, IsTimed, constraints_in, each_alone}
+use Rattle.mission_net.proofs.Numbers.{net-constraints, net-count}
 use Rattle.mission_net.proofs.Shapes.{owners-append, shape-snoc, shape-grid, shape-extends}
 use Rattle.mission_net.proofs.Counts.{cells-count, signals-count, variables-count, signals-made, variables-made}
 use Rattle.mission_net.proofs.Holding.{satisfies-in-range}
@@ -42,8 +42,8 @@ added-holds grid before r old new holds added =
     let box : new.store.box ≡ box_more old.store.box (start_of grid (made before r)) = added.box ∙ ap (λ (g : List ℕ). box_more old.store.box (start_of g (made before r))) same in
     let starts : start grid (before ++ r ∷ []) ≡ start grid before ++ start_of grid (made before r) = start-append grid before (r ∷ []) ∙ ap (λ (os : List Owner). start grid before ++ start_of grid os) (append-nil (made before r)) in record {
       shape = added.shape ∙ ap (λ (s : Shape). with_owners s (made before r)) holds.shape ∙ sym (shape-snoc grid before r);
-      contractors = numbered grid (before ++ r ∷ []) new.contractors
-          (added.contractors ∙ ap (λ (xs : List Constraint). xs ++ constraints_of grid before r) (net-constraints grid before old holds) ∙ sym (constraints-snoc grid before r));
+      contractors = added.contractors ∙ ap (λ (xs : List (List Constraint)). xs ++ each_alone (constraints_of grid before r)) holds.contractors ∙ sym (map-append (λ (c : Constraint). c ∷ []) (constraints grid before) (constraints_of grid before r))
+          ∙ ap each_alone (sym (constraints-snoc grid before r));
       below = subst (λ (b : Option (List Span)). IsBelowBox b (Some (start grid (before ++ r ∷ [])))) (sym box)
           (subst (λ (d : List Span). IsBelowBox (box_more old.store.box (start_of grid (made before r))) (Some d)) (sym starts) (more-low old.store.box (start grid before) (start_of grid (made before r)) holds.below));
     }
@@ -151,7 +151,7 @@ module _ (m : Mission) (is : IsMission m) (i : ℕ) (x : Item) (net : NetState A
       omega (arith, all-cells, grows.cells, ap (λ (s : Shape). s.cells) here)
 
   -- the constraints so far and those of the record, among all
-  so-far : map constraint_of net.contractors ++ constraints_of m.cuts (take i m.items) x ++ constraints_from m.cuts (take (i + 1) m.items) (drop (i + 1) m.items) ≡ constraints m.cuts m.items
+  so-far : constraints_in net ++ constraints_of m.cuts (take i m.items) x ++ constraints_from m.cuts (take (i + 1) m.items) (drop (i + 1) m.items) ≡ constraints m.cuts m.items
   so-far =
       ap (λ (l : List Constraint). l ++ constraints_from m.cuts (take (i + 1) m.items) (drop (i + 1) m.items))
       (ap (λ (xs : List Constraint). xs ++ constraints_of m.cuts (take i m.items) x) (net-constraints m.cuts (take i m.items) net holds) ∙ sym (constraints-snoc m.cuts (take i m.items) x) ∙ ap (constraints m.cuts) (sym longer))
@@ -169,12 +169,13 @@ module _ (m : Mission) (is : IsMission m) (i : ℕ) (x : Item) (net : NetState A
         is.few.feet,
         is.few.records,
         ap length so-far,
-        length-append (map constraint_of net.contractors ++ constraints_of m.cuts (take i m.items) x) (constraints_from m.cuts (take (i + 1) m.items) (drop (i + 1) m.items)),
-        length-append (map constraint_of net.contractors) (constraints_of m.cuts (take i m.items) x),
-        length-map net.contractors constraint_of,
+        length-append (constraints_in net ++ constraints_of m.cuts (take i m.items) x) (constraints_from m.cuts (take (i + 1) m.items) (drop (i + 1) m.items)),
+        length-append (constraints_in net) (constraints_of m.cuts (take i m.items) x),
+        ap length (net-constraints m.cuts (take i m.items) net holds),
+        net-count m.cuts (take i m.items) net holds,
       )
 
-  room : reads_in m.cuts (map constraint_of net.contractors) + reads_in m.cuts (constraints_of m.cuts (take i m.items) x) ≤ 20000000
+  room : reads_in m.cuts (constraints_in net) + reads_in m.cuts (constraints_of m.cuts (take i m.items) x) ≤ 20000000
   room =
       let all = records-reads m.version m.ticks m.cuts m.items [] is.right in
       omega (
@@ -182,8 +183,8 @@ module _ (m : Mission) (is : IsMission m) (i : ℕ) (x : Item) (net : NetState A
         all,
         is.few.feet,
         ap (reads_in m.cuts) so-far,
-        sum_by-append (reads_of m.cuts) (map constraint_of net.contractors ++ constraints_of m.cuts (take i m.items) x) (constraints_from m.cuts (take (i + 1) m.items) (drop (i + 1) m.items)),
-        sum_by-append (reads_of m.cuts) (map constraint_of net.contractors) (constraints_of m.cuts (take i m.items) x),
+        sum_by-append (reads_of m.cuts) (constraints_in net ++ constraints_of m.cuts (take i m.items) x) (constraints_from m.cuts (take (i + 1) m.items) (drop (i + 1) m.items)),
+        sum_by-append (reads_of m.cuts) (constraints_in net) (constraints_of m.cuts (take i m.items) x),
       )
 
   signals-so-far : length net.store.shape.signals ≡ signals_in (take i m.items)
@@ -216,7 +217,7 @@ module _ (m : Mission) (is : IsMission m) (i : ℕ) (x : Item) (net : NetState A
         cells = next-cells;
         of = subst (λ (g : List ℕ). All (IsOf (with_owners net.store.shape (made (take i m.items) x))) (constraints_of g (take i m.items) x)) (sym grid) all-of;
         few = subst (λ (g : List ℕ). length net.contractors + length (constraints_of g (take i m.items) x) ≤ 4000000000) (sym grid) few;
-        reads = subst (λ (g : List ℕ). reads_in g (map constraint_of net.contractors) + reads_in g (constraints_of g (take i m.items) x) ≤ 20000000) (sym grid) room;
+        reads = subst (λ (g : List ℕ). reads_in g (constraints_in net) + reads_in g (constraints_of g (take i m.items) x) ≤ 20000000) (sym grid) room;
         taken = taken m.version m.ticks (take i m.items) x (first-signals m is i) right;
         bindable = bindable m.version m.ticks (take i m.items) x right;
         beacon = marked m.version m.ticks (take i m.items) x right;

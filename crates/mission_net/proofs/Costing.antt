@@ -1,5 +1,5 @@
 -- The bound of settling, in the words of the records.
-use Rattle.std.proofs.Common.{◌≡◌, ℕ, zero, suc, ◌+◌, ◌*◌, ◌-◌, ◌≤◌, Bool, true, false, cond, Option, Some, None, List, [], ◌∷◌, ◌++◌, All, IsSome, arith, refl, sym, ap, ap₂, subst, ◌∙◌, map, length, take, drop, replicate, sum_by, count_by}
+use Rattle.std.proofs.Common.{◌≡◌, ℕ, zero, suc, ◌+◌, ◌*◌, ◌-◌, ◌≤◌, Bool, true, false, cond, Option, Some, None, List, [], ◌∷◌, ◌++◌, All, IsSome, arith, refl, sym, ap, ap₂, subst, ◌∙◌, flat_map, length, take, drop, replicate, sum_by, count_by}
 use Rattle.std.specs.Prelude.{IsFalse}
 use Rattle.std.proofs.lemmas.List.Elements.{All-head, All-tail}
 use Rattle.std.proofs.lemmas.List.Sums.{sum_by-cons, sum_by-append}
@@ -7,13 +7,13 @@ use Rattle.tube_spec.specs.Span.{Span, width_of}
 use Rattle.tube_spec.specs.Shape.{Shape}
 use Rattle.tube_spec.specs.Box.{box_more}
 use Rattle.cell_readers.specs.Costs.{weighted, lost_widths, lost_cost}
-use Rattle.ctc_network.specs.Nets.{NetState, reads_by, readers_of}
+use Rattle.ctc_network.specs.Nets.{NetState, of_place, reads_by, readers_of}
 use Rattle.any_ctc.specs.Constraints.{Constraint, constraint_scope}
 use Rattle.any_ctc.specs.declared.AnyCtc.{AnyCtc}
 use Rattle.any_ctc.specs.Contractors.{constraint_of, any_scope}
 use Rattle.mission_items.specs.declared.item.Item.{Item}
 use Rattle.mission_net.specs.Records.{shape_by, constraints_from, constraints}
-use Rattle.mission_net.specs.Building.{IsNetOf}
+use Rattle.mission_net.specs.Building.{stands_for, IsNetOf}
 use Rattle.mission_net.specs.Costs.{readers_in, section_cost}
 use Rattle.mission_net.proofs.Numbers.{net-constraints}
 
@@ -33,13 +33,14 @@ pub added-wait : (ws : List Bool) (n : ℕ) → All IsFalse ws → count_by (λ 
 added-wait ws n h = omega (arith, sum_by-append (λ (b : Bool). cond b 1 0) ws (replicate n true), none-wait ws h, all-wait n)
 
 -- the contractors that read a cell are the constraints that do
-readers-by : (s : Shape) (cs : List AnyCtc) (cell : ℕ) → readers_of any_scope s cs cell ≡ readers_of (λ (d : Constraint) (t : Shape). constraint_scope t d) s (map constraint_of cs) cell
+readers-by : (s : Shape) (cs : List (Option AnyCtc)) (cell : ℕ) → readers_of (of_place any_scope) s cs cell ≡ readers_of (λ (d : Constraint) (t : Shape). constraint_scope t d) s (flat_map stands_for cs) cell
 readers-by s [] cell = refl
-readers-by s (c ∷ cs) cell =
-    sum_by-cons (λ (d : AnyCtc). cond (reads_by any_scope s d cell) 1 0) c cs ∙ ap (λ (n : ℕ). cond (reads_by any_scope s c cell) 1 0 + n) (readers-by s cs cell)
-    ∙ sym (sum_by-cons (λ (d : Constraint). cond (reads_by (λ (e : Constraint) (t : Shape). constraint_scope t e) s d cell) 1 0) (constraint_of c) (map constraint_of cs))
+readers-by s (None ∷ cs) cell = sum_by-cons (λ (d : Option AnyCtc). cond (reads_by (of_place any_scope) s d cell) 1 0) None cs ∙ readers-by s cs cell
+readers-by s (Some c ∷ cs) cell =
+    sum_by-cons (λ (d : Option AnyCtc). cond (reads_by (of_place any_scope) s d cell) 1 0) (Some c) cs ∙ ap (λ (n : ℕ). cond (reads_by any_scope s c cell) 1 0 + n) (readers-by s cs cell)
+    ∙ sym (sum_by-cons (λ (d : Constraint). cond (reads_by (λ (e : Constraint) (t : Shape). constraint_scope t e) s d cell) 1 0) (constraint_of c) (flat_map stands_for cs))
 
-pub net-readers : (grid : List ℕ) (items : List Item) (net : NetState AnyCtc) → IsNetOf grid items net → (cell : ℕ) → readers_of any_scope net.store.shape net.contractors cell ≡ readers_in grid items cell
+pub net-readers : (grid : List ℕ) (items : List Item) (net : NetState AnyCtc) → IsNetOf grid items net → (cell : ℕ) → readers_of (of_place any_scope) net.store.shape net.contractors cell ≡ readers_in grid items cell
 net-readers grid items net holds cell =
     readers-by net.store.shape net.contractors cell
     ∙ ap₂ (λ (s : Shape) (cs : List Constraint). readers_of (λ (d : Constraint) (t : Shape). constraint_scope t d) s cs cell) holds.shape (net-constraints grid items net holds)
@@ -73,15 +74,15 @@ more-some (Some xs) more h = refl
 pub section-bound : (grid : List ℕ) (items : List Item) (first upto : ℕ) (box : Option (List Span)) (more : List Span) (built : NetState AnyCtc) (new : Option (List Span)) (ws : List Bool) (before now : ℕ)
     → IsNetOf grid (take upto items) built → built.store.box ≡ box_more box more
     → built.waiting ≡ ws ++ replicate (length (constraints_from grid (take first items) (drop first (take upto items)))) true → (IsSome box → All IsFalse ws)
-    → ((box ≡ None) → now ≡ before) → now ≤ before + count_by (λ (w : Bool). w) built.waiting + lost_cost (readers_of any_scope built.store.shape built.contractors) built.store.box new
+    → ((box ≡ None) → now ≡ before) → now ≤ before + count_by (λ (w : Bool). w) built.waiting + lost_cost (readers_of (of_place any_scope) built.store.shape built.contractors) built.store.box new
     → now ≤ before + section_cost grid items first upto (box_more box more) new
 section-bound grid items first upto None more built new ws before now holds at waiting rest still bound = omega (arith, still refl)
 section-bound grid items first upto (Some xs) more built new ws before now holds at waiting rest still bound =
     let added = length (constraints_from grid (take first items) (drop first (take upto items))) in
     let start = box_more (Some xs) more in
     let wait : count_by (λ (w : Bool). w) built.waiting ≡ added = ap (λ (l : List Bool). count_by (λ (w : Bool). w) l) waiting ∙ added-wait ws added (rest refl) in
-    let lost : lost_cost (readers_of any_scope built.store.shape built.contractors) built.store.box new ≡ lost_cost (readers_in grid (take upto items)) start new =
-    cost-same (readers_of any_scope built.store.shape built.contractors) (readers_in grid (take upto items)) (net-readers grid (take upto items) built holds) built.store.box new
+    let lost : lost_cost (readers_of (of_place any_scope) built.store.shape built.contractors) built.store.box new ≡ lost_cost (readers_in grid (take upto items)) start new =
+    cost-same (readers_of (of_place any_scope) built.store.shape built.contractors) (readers_in grid (take upto items)) (net-readers grid (take upto items) built holds) built.store.box new
     ∙ ap (λ (b : Option (List Span)). lost_cost (readers_in grid (take upto items)) b new) at in
     let cost = started-cost grid items first upto start new (more-some (Some xs) more refl) in
     omega (arith, bound, wait, lost, cost)

@@ -1,31 +1,41 @@
--- Contractors by their numbers: each stands for one constraint, so their list and that of the constraints say the same.
-use Rattle.std.proofs.Common.{◌≡◌, ℕ, List, [], ◌∷◌, refl, sym, ap, ◌∙◌, map, flat_map}
+-- What stands under the numbers of a net, as lists of constraints.
+use Rattle.std.proofs.Common.{◌≡◌, ℕ, ◌+◌, Option, List, [], ◌∷◌, ◌++◌, arith, refl, sym, ap, ◌∙◌, map, flat_map, length, length-append}
+use Rattle.std.proofs.lemmas.List.{length-map}
+use Rattle.std.proofs.lemmas.List.Concat.{flat_map-append}
+use Rattle.tube_spec.specs.Owner.{Owner}
 use Rattle.ctc_network.specs.Nets.{NetState}
 use Rattle.mission_items.specs.declared.item.Item.{Item}
 use Rattle.any_ctc.specs.Constraints.{Constraint}
 use Rattle.any_ctc.specs.declared.AnyCtc.{AnyCtc}
-use Rattle.any_ctc.specs.Contractors.{constraint_of}
-use Rattle.mission_net.specs.Records.{constraints, contractors_of}
-use Rattle.mission_net.specs.Building.{stands_for, IsNetOf}
+use Rattle.mission_net.specs.Records.{constraints}
+use Rattle.mission_net.specs.Building.{stands_for, constraints_in, each_alone, IsNetOf, IsAdded}
 
 -- what is in the lists of one each
-members : (cs : List Constraint) → flat_map (λ (l : List Constraint). l) (map (λ (c : Constraint). c ∷ []) cs) ≡ cs
+pub members : (cs : List Constraint) → flat_map (λ (l : List Constraint). l) (each_alone cs) ≡ cs
 members [] = refl
 members (c ∷ cs) = ap (λ (l : List Constraint). c ∷ l) (members cs)
 
-standing : (cs : List AnyCtc) → flat_map (λ (l : List Constraint). l) (map stands_for cs) ≡ map constraint_of cs
+pub standing : (cs : List (Option AnyCtc)) → flat_map (λ (l : List Constraint). l) (map stands_for cs) ≡ flat_map stands_for cs
 standing [] = refl
-standing (c ∷ cs) = ap (λ (l : List Constraint). constraint_of c ∷ l) (standing cs)
-
-each-alone : (cs : List AnyCtc) → map stands_for cs ≡ map (λ (c : Constraint). c ∷ []) (map constraint_of cs)
-each-alone [] = refl
-each-alone (c ∷ cs) = ap (λ (l : List (List Constraint)). (constraint_of c ∷ []) ∷ l) (each-alone cs)
+standing (c ∷ cs) = ap (λ (l : List Constraint). stands_for c ++ l) (standing cs)
 
 -- the constraints of a net's contractors, in order
-pub net-constraints : (grid : List ℕ) (items : List Item) (net : NetState AnyCtc) → IsNetOf grid items net → map constraint_of net.contractors ≡ constraints grid items
+pub net-constraints : (grid : List ℕ) (items : List Item) (net : NetState AnyCtc) → IsNetOf grid items net → constraints_in net ≡ constraints grid items
 net-constraints grid items net holds =
     sym (standing net.contractors) ∙ ap (flat_map (λ (l : List Constraint). l)) holds.contractors ∙ members (constraints grid items)
 
--- and from them what the contractors stand for by their numbers
-pub numbered : (grid : List ℕ) (items : List Item) (cs : List AnyCtc) → map constraint_of cs ≡ constraints grid items → map stands_for cs ≡ contractors_of grid items
-numbered grid items cs e = each-alone cs ∙ ap (map (λ (c : Constraint). c ∷ [])) e
+-- how many numbers the net of some records has given
+pub net-count : (grid : List ℕ) (items : List Item) (net : NetState AnyCtc) → IsNetOf grid items net → length net.contractors ≡ length (constraints grid items)
+net-count grid items net holds =
+    omega (arith, ap length holds.contractors, length-map net.contractors stands_for, length-map (constraints grid items) (λ (c : Constraint). c ∷ []))
+
+-- additions, in the words of the constraints
+pub added-in : (os : List Owner) (cs : List Constraint) (a b : NetState AnyCtc) → IsAdded os cs a b → constraints_in b ≡ constraints_in a ++ cs
+added-in os cs a b p =
+    sym (standing b.contractors) ∙ ap (flat_map (λ (l : List Constraint). l)) p.contractors ∙ flat_map-append (λ (l : List Constraint). l) (map stands_for a.contractors) (each_alone cs)
+    ∙ ap (λ (l : List Constraint). l ++ flat_map (λ (m : List Constraint). m) (each_alone cs)) (standing a.contractors) ∙ ap (λ (l : List Constraint). constraints_in a ++ l) (members cs)
+
+-- each addition takes a number
+pub added-count : (os : List Owner) (cs : List Constraint) (a b : NetState AnyCtc) → IsAdded os cs a b → length b.contractors ≡ length a.contractors + length cs
+added-count os cs a b p =
+    omega (arith, ap length p.contractors, length-append (map stands_for a.contractors) (each_alone cs), length-map cs (λ (c : Constraint). c ∷ []), length-map a.contractors stands_for, length-map b.contractors stands_for)

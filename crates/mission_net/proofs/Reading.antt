@@ -34,7 +34,8 @@ use Rattle.tube_store.specs.declared.VarId.{VarId}
 use Rattle.any_ctc.specs.Constraints.{Constraint, SliceOf, DerivOf, BoundOf, EvalOf, DelayToOf, DelayFromOf, DelayShiftOf, DistOf, ConstellOf, ExprOf, constraint_scope, reads_near, rate_reads, reads_of, reads_in}
 use Rattle.any_ctc.specs.declared.AnyCtc.{AnyCtc}
 use Rattle.any_ctc.specs.Contractors.{constraint_of, any_scope}
-use Rattle.ctc_network.specs.Nets.{entries_of}
+use Rattle.ctc_network.specs.Nets.{entries_of, of_place}
+use Rattle.mission_net.specs.Building.{stands_for}
 use Rattle.mission_net.specs.Records.{owners, owners_from, shape_by, start, marks_in, point_at, formula_at, formula_constraints, ping_constraints, constraints_of, constraints_from, constraints}
 use Rattle.mission_net.proofs.Shapes.{owners-append}
 use Rattle.mission_net.proofs.Beacons.{concat-points, length-marks_in, mark-at, marks-below}
@@ -247,7 +248,8 @@ scope-length s (ConstellOf p marks) =
     omega (arith, length-append (point_cells s p) (concat (map (point_cells s) marks)), length-map p (slice_index s.vars), concat-length s marks)
 
 -- what a net's contractors read, by their constraints
-pub net-reads : (s : Shape) (cs : List AnyCtc) → entries_of any_scope s cs ≡ reads_in s.grid (map constraint_of cs)
+pub net-reads : (s : Shape) (cs : List (Option AnyCtc)) → entries_of (of_place any_scope) s cs ≡ reads_in s.grid (flat_map stands_for cs)
 net-reads s [] = refl
-net-reads s (c ∷ cs) =
-    sum_by-cons (λ (x : AnyCtc). length (any_scope x s)) c cs ∙ ap₂ (λ (m n : ℕ). m + n) (scope-length s (constraint_of c)) (net-reads s cs) ∙ sym (sum_by-cons (reads_of s.grid) (constraint_of c) (map constraint_of cs))
+net-reads s (None ∷ cs) = sum_by-cons (λ (x : Option AnyCtc). length (of_place any_scope x s)) None cs ∙ net-reads s cs
+net-reads s (Some c ∷ cs) =
+    sum_by-cons (λ (x : Option AnyCtc). length (of_place any_scope x s)) (Some c) cs ∙ ap₂ (λ (m n : ℕ). m + n) (scope-length s (constraint_of c)) (net-reads s cs) ∙ sym (sum_by-cons (reads_of s.grid) (constraint_of c) (flat_map stands_for cs))

@@ -1,6 +1,5 @@
 -- Sections: what settling the net of further records gives.
 use Rattle.std.proofs.Common.{◌≡◌, ℕ, zero, suc, ◌≤◌, Option, Some, None, List, [], ◌∷◌, ◌++◌, arith, refl, sym, ap, ap₂, subst, ◌∙◌, map, flat_map, take, drop, IsSome, IsNone, IsSomeAnd, IfSome, slice_get, sum_by, option_map, append-nil, length, ◌+◌, ◌*◌, ◌<◌}
-use Rattle.std.proofs.lemmas.List.Folds.{flat_map-map}
 use Rattle.std.proofs.lemmas.List.Elements.{All-nil}
 use Rattle.std.proofs.lemmas.List.{take-append-drop}
 use Rattle.tube_spec.specs.Span.{Span, IsBounded, width_of}
@@ -14,7 +13,7 @@ use Rattle.tube_spec.proofs.Widths.{widths-small}
 use Rattle.tube_spec.proofs.Boxes.{IsBelow-refl, IsBelowBox-refl, IsBelowBox-trans}
 use Rattle.tube_spec.proofs.Prefixes.{Extends-refl}
 use Rattle.tube_store.specs.State.{State, IsStore}
-use Rattle.ctc_network.specs.Nets.{NetState}
+use Rattle.ctc_network.specs.Nets.{NetState, of_place}
 use Rattle.ctc_network.specs.Settling.{SettlesAs, StillNarrows}
 use Rattle.ctc_network.specs.declared.answers.Settled.{Settled}
 use Rattle.ctc_network.specs.declared.answers.Settled.TheVariants.{Fixpoint, Empty, Spent}
@@ -72,10 +71,20 @@ module _ (grid : List ℕ) (before more : List Item) (none : IsShape (no_shape g
         (subst (λ (cs : List Constraint). KeepsFixpoints (flat_map (constraint_projections (shape_by grid (before ++ more))) cs) (box_more b1 (start_of grid (owners_from before more))) b2) all keeps)));
   }
 
+-- the projections of what stands under the numbers are those of the constraints there
+places-projections : (s : Shape) (cs : List (Option AnyCtc)) → flat_map (λ c. of_place any_projections c s) cs ≡ flat_map (constraint_projections s) (flat_map stands_for cs)
+places-projections s [] = refl
+places-projections s (None ∷ cs) = places-projections s cs
+places-projections s (Some c ∷ cs) = ap (λ (ps : List Projection). any_projections c s ++ ps) (places-projections s cs)
+
+place-projections : (s : Shape) (place : Option AnyCtc) → flat_map (constraint_projections s) (stands_for place) ≡ of_place any_projections place s
+place-projections s None = refl
+place-projections s (Some c) = append-nil (constraint_projections s (constraint_of c))
+
 -- the projections of a net's contractors are those of its records
-pub net-projections : (grid : List ℕ) (items : List Item) (net : NetState AnyCtc) → IsNetOf grid items net → flat_map (λ c. any_projections c net.store.shape) net.contractors ≡ projections grid items
+pub net-projections : (grid : List ℕ) (items : List Item) (net : NetState AnyCtc) → IsNetOf grid items net → flat_map (λ c. of_place any_projections c net.store.shape) net.contractors ≡ projections grid items
 net-projections grid items net holds =
-    sym (flat_map-map (constraint_projections net.store.shape) constraint_of net.contractors)
+    places-projections net.store.shape net.contractors
     ∙ ap₂ (λ (s : Shape) (cs : List Constraint). flat_map (constraint_projections s) cs) holds.shape (net-constraints grid items net holds)
 
 -- a box that a contractor still narrows is not empty
@@ -90,7 +99,7 @@ greatest-of ps all box (Some r) low keeps g = (g.0, IsBelowBox-trans (Some r) bo
 
 -- what the answer of settling says of the section
 settled-section : (grid : List ℕ) (items : List Item) (budget : ℕ) (net : NetState AnyCtc) (new : State) (answer : Settled) → IsNetOf grid items net → IsEnclosure grid items net.store.box
-    → SettlesAs (λ c. any_projections c net.store.shape) net.contractors budget net.store new answer → IsSectionAs grid items new.box answer
+    → SettlesAs (λ c. of_place any_projections c net.store.shape) net.contractors budget net.store new answer → IsSectionAs grid items new.box answer
 settled-section grid items budget net new Fixpoint holds keeps settles = (
   settles.0,
   greatest-of (projections grid items) (Some (start grid items)) net.store.box new.box keeps.below keeps.keeps
@@ -102,7 +111,7 @@ settled-section grid items budget net new Empty holds keeps settles = (
       (subst (λ (ps : List Projection). IsGreatest ps net.store.box new.box) (net-projections grid items net holds) settles.1),
 )
 settled-section grid items budget net new (Spent id) holds keeps settles = (
-  still-some (λ c. any_projections c net.store.shape) net.contractors new.box id.0 settles.2,
+  still-some (λ c. of_place any_projections c net.store.shape) net.contractors new.box id.0 settles.2,
   record {
     below = IsBelowBox-trans new.box net.store.box (Some (start grid items)) settles.0.below keeps.below;
     keeps = λ q fix below.
@@ -117,7 +126,7 @@ get-map f (y ∷ xs) zero x e = ap (option_map f) e
 get-map f (y ∷ xs) (suc k) x e = get-map f xs k x e
 
 spent-as : (grid : List ℕ) (items : List Item) (budget : ℕ) (net : NetState AnyCtc) (new : State) (answer : Settled) → IsNetOf grid items net
-    → SettlesAs (λ c. any_projections c net.store.shape) net.contractors budget net.store new answer → IsSpentAs grid items new.box (measure_of net.store.box) budget answer
+    → SettlesAs (λ c. of_place any_projections c net.store.shape) net.contractors budget net.store new answer → IsSpentAs grid items new.box (measure_of net.store.box) budget answer
 spent-as grid items budget net new Fixpoint holds settles = tt
 spent-as grid items budget net new Empty holds settles = tt
 spent-as grid items budget net new (Spent id) holds settles =
@@ -127,8 +136,8 @@ spent-as grid items budget net new (Spent id) holds settles =
       (
         stands_for still.0,
         subst (λ (cs : List (List Constraint)). slice_get cs id.0 ≡ Some (stands_for still.0)) holds.contractors (get-map stands_for net.contractors id.0 still.0 still.1),
-        subst (λ (ps : List Projection). IsSomeAnd new.box (λ xs. IsFixpoint ps xs → ⊥)) (sym (append-nil (constraint_projections (shape_by grid items) (constraint_of still.0))))
-            (subst (λ (s : Shape). IsSomeAnd new.box (λ xs. IsFixpoint (constraint_projections s (constraint_of still.0)) xs → ⊥)) holds.shape still.2),
+        subst (λ (ps : List Projection). IsSomeAnd new.box (λ xs. IsFixpoint ps xs → ⊥)) (sym (place-projections (shape_by grid items) still.0))
+            (subst (λ (s : Shape). IsSomeAnd new.box (λ xs. IsFixpoint (of_place any_projections still.0 s) xs → ⊥)) holds.shape still.2),
       ),
     )
 

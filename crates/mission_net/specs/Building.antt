@@ -1,5 +1,5 @@
 -- What a net holds of the records that were built, and what settling makes of it.
-use Rattle.std.specs.Prelude.{◌≡◌, ◌<◌, ℕ, List, [], ◌∷◌, ◌++◌, Option, Some, true, map, flat_map, replicate, length, IsSome, IsNone, IsSomeAnd, All, ◌+◌, ◌≤◌, slice_get}
+use Rattle.std.specs.Prelude.{◌≡◌, ◌<◌, ℕ, List, [], ◌∷◌, ◌++◌, Option, Some, None, true, map, flat_map, replicate, length, IsSome, IsNone, IsSomeAnd, All, ◌+◌, ◌≤◌, slice_get}
 use Rattle.tube_spec.specs.Limits.{greatest_bound, most_cells, most_reads, most_signals, most_variables}
 use Rattle.tube_spec.specs.Span.{Span, IsBounded}
 use Rattle.tube_spec.specs.Box.{IsBelowBox, box_more, measure_of}
@@ -20,9 +20,18 @@ use Rattle.mission_net.specs.Records.{constraints_of, made, shape_by, start, con
 use Rattle.any_ctc.specs.declared.AnyCtc.{AnyCtc}
 use Rattle.any_ctc.specs.Contractors.{constraint_of}
 
--- the constraints that a contractor of a net stands for
-abbrev pub stands_for : AnyCtc → List Constraint
-stands_for c = constraint_of c ∷ []
+-- the constraints that what stands under a number of a net stands for: those of the contractor, if there is one
+abbrev pub stands_for : Option AnyCtc → List Constraint
+stands_for None = []
+stands_for (Some c) = constraint_of c ∷ []
+
+-- the constraints that the contractors of a net stand for, in the order of their numbers
+abbrev pub constraints_in : NetState AnyCtc → List Constraint
+constraints_in net = flat_map stands_for net.contractors
+
+-- each of these by itself
+abbrev pub each_alone : List Constraint → List (List Constraint)
+each_alone cs = map (λ c. c ∷ []) cs
 
 -- A net has exactly the cells and the contractors of the records, these under their numbers, and its box lies below their declared ranges.
 pub record IsNetOf (grid : List ℕ) (items : List Item) (net : NetState AnyCtc) : Type 0 where
@@ -34,14 +43,14 @@ pub record IsNetOf (grid : List ℕ) (items : List Item) (net : NetState AnyCtc)
 pub record IsAdded (os : List Owner) (cs : List Constraint) (old new : NetState AnyCtc) : Type 0 where
   pub shape : new.store.shape ≡ with_owners old.store.shape os
   pub box : new.store.box ≡ box_more old.store.box (start_of old.store.shape.grid os)
-  pub contractors : map constraint_of new.contractors ≡ map constraint_of old.contractors ++ cs
+  pub contractors : map stands_for new.contractors ≡ map stands_for old.contractors ++ each_alone cs
   pub waiting : new.waiting ≡ old.waiting ++ replicate (length cs) true
 
 -- A net takes these contractors: each is of its shape, and neither their numbers nor their read entries run out.
 pub record CanAdd (cs : List Constraint) (net : NetState AnyCtc) : Type 0 where
   pub of : All (IsOf net.store.shape) cs
   pub few : length net.contractors + length cs ≤ 4000000000
-  pub reads : reads_in net.store.shape.grid (map constraint_of net.contractors) + reads_in net.store.shape.grid cs ≤ most_reads
+  pub reads : reads_in net.store.shape.grid (constraints_in net) + reads_in net.store.shape.grid cs ≤ most_reads
 
 -- a table beside a net: it has the ranges of the same variables, and there are no more signals than there may be
 pub record IsBeside (t : Table) (net : NetState AnyCtc) : Type 0 where
@@ -71,7 +80,7 @@ pub record CanBuild (before : List Item) (r : Item) (net : NetState AnyCtc) : Ty
   pub cells : (with_owners net.store.shape (made before r)).cells ≤ most_cells
   pub of : All (IsOf (with_owners net.store.shape (made before r))) (constraints_of net.store.shape.grid before r)
   pub few : length net.contractors + length (constraints_of net.store.shape.grid before r) ≤ 4000000000
-  pub reads : reads_in net.store.shape.grid (map constraint_of net.contractors) + reads_in net.store.shape.grid (constraints_of net.store.shape.grid before r) ≤ most_reads
+  pub reads : reads_in net.store.shape.grid (constraints_in net) + reads_in net.store.shape.grid (constraints_of net.store.shape.grid before r) ≤ most_reads
   pub taken : IsTaken before r
   pub bindable : IsBindable r
   pub beacon : HasBeacon before r

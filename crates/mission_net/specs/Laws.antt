@@ -4,7 +4,7 @@ use Rattle.tube_spec.specs.Span.{Span}
 use Rattle.tube_spec.specs.Box.{box_more, measure_of}
 use Rattle.tube_spec.specs.Owner.{start_of}
 use Rattle.tube_store.specs.State.{State}
-use Rattle.ctc_network.specs.Nets.{NetState}
+use Rattle.ctc_network.specs.Nets.{NetState, of_place}
 use Rattle.ctc_network.specs.Settling.{SettlesAs}
 use Rattle.ctc_network.specs.declared.answers.Settled.{Settled}
 use Rattle.mission_items.specs.declared.item.Item.{Item}
@@ -25,7 +25,7 @@ StartedLaw =
 abbrev pub SettledLaw : Type 0
 SettledLaw =
     (grid : List ℕ) (items : List Item) (budget : ℕ) (net : NetState AnyCtc) (new : State) (answer : Settled) → IsNetOf grid items net → IsEnclosure grid items net.store.box
-    → SettlesAs (λ c. any_projections c net.store.shape) net.contractors budget net.store new answer
+    → SettlesAs (λ c. of_place any_projections c net.store.shape) net.contractors budget net.store new answer
     → IsSectionAs grid items new.box answer × IsSpentAs grid items new.box (measure_of net.store.box) budget answer
 
 -- The box of a section of the first records of a mission encloses each assignment that satisfies them, also where it was spent.

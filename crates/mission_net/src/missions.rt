@@ -1,11 +1,11 @@
 ghost use Rattle.std.specs.Prelude.{◌≡◌, ℕ, ◌≤◌, List, Some, OnOk, IfOk, length, take, drop};
 ghost use Rattle.tube_spec.specs.Span.{Span};
-ghost use Rattle.tube_spec.specs.Box.{IsBelowBox};
+ghost use Rattle.tube_spec.specs.Box.{IsBelow, IsBelowBox};
 ghost use Rattle.tube_spec.specs.Fixpoint.{IsFixpoint};
 ghost use Rattle.tube_spec.specs.Assignment.{Assignment};
 ghost use Rattle.tube_spec.specs.Owner.{hull_box};
 ghost use Rattle.mission_items.specs.Valid.{IsMission};
-ghost use Rattle.mission_net.specs.Records.{owners, owners_from, constraints_from, projections, SatisfiesAll};
+ghost use Rattle.mission_net.specs.Records.{owners, owners_from, constraints_from, projections, start, SatisfiesAll};
 ghost use Rattle.mission_net.specs.Tables.{IsTableOf};
 ghost use Rattle.mission_net.specs.Building.{IsNetOf, IsAdded};
 
@@ -77,12 +77,14 @@ pub fn build(
     ensures holds { OnOk result (IsNetOf mission.now.cuts (take last mission.now.items) net.new) }
     ensures added { OnOk result (IsAdded (owners_from (take first mission.now.items) (drop first (take last mission.now.items))) (constraints_from mission.now.cuts (take first mission.now.items) (drop first (take last mission.now.items))) net.old net.new) }
 
-    // Each assignment that satisfies the records so far and lay in the box before lies in it, and its hull is a fixpoint of them.
+    // Each assignment that satisfies the records so far and lay in the box before lies in it. Its hull is a fixpoint of them, below the
+    // declared ranges.
     ensures encloses { OnOk result ((a : Assignment) → SatisfiesAll mission.now.cuts a (take last mission.now.items)
         → IsBelowBox (Some (hull_box mission.now.cuts (owners (take first mission.now.items)) a)) net.old.store.box
         → IsBelowBox (Some (hull_box mission.now.cuts (owners (take last mission.now.items)) a)) net.new.store.box) }
     ensures stable { (a : Assignment) → SatisfiesAll mission.now.cuts a (take last mission.now.items)
-        → IsFixpoint (projections mission.now.cuts (take last mission.now.items)) (hull_box mission.now.cuts (owners (take last mission.now.items)) a) }
+        → IsFixpoint (projections mission.now.cuts (take last mission.now.items)) (hull_box mission.now.cuts (owners (take last mission.now.items)) a)
+        × IsBelow (hull_box mission.now.cuts (owners (take last mission.now.items)) a) (start mission.now.cuts (take last mission.now.items)) }
 {
     let mut table = table_of(alloc, mission, first)?;
     build_on(mission, first, last, &mut table, net)

@@ -29,7 +29,7 @@ const MANY: u32 = 4_000_000_000;
 
 // Adds a slice contractor, if its signal and slice are of the net.
 fn add_slice(net: &mut Net<AnyCtc>, signal: u32, slice: u32) -> Result<(), Fail> {
-    if signal >= net.store().signals() || slice >= net.store().slices() || net.len() >= MANY {
+    if signal >= net.store().signals() || slice >= net.store().slices() || net.numbers() >= MANY {
         return Err(Fail::from("no such slice"));
     }
     net.add(AnyCtc::Slice(SliceCtc::new(SignalId(signal), slice)))?;
@@ -39,7 +39,7 @@ fn add_slice(net: &mut Net<AnyCtc>, signal: u32, slice: u32) -> Result<(), Fail>
 // Adds a derivative contractor, if its signals and slice are of the net.
 fn add_rate(net: &mut Net<AnyCtc>, x: u32, rate: u32, slice: u32) -> Result<(), Fail> {
     let signals = net.store().signals();
-    if x >= signals || rate >= signals || slice >= net.store().slices() || net.len() >= MANY {
+    if x >= signals || rate >= signals || slice >= net.store().slices() || net.numbers() >= MANY {
         return Err(Fail::from("no such rate"));
     }
     net.add(AnyCtc::Deriv(DerivCtc::new(SignalId(x), SignalId(rate), slice)))?;
@@ -50,7 +50,7 @@ fn add_rate(net: &mut Net<AnyCtc>, x: u32, rate: u32, slice: u32) -> Result<(), 
 fn add_measured(net: &mut Net<AnyCtc>, measured: &Measured) -> Result<(), Fail> {
     let (signal, first, last, lo, hi) = *measured;
     let range = Interval::new(lo, hi).ok_or("no interval")?;
-    if signal >= net.store().signals() || net.len() >= MANY {
+    if signal >= net.store().signals() || net.numbers() >= MANY {
         return Err(Fail::from("no such signal"));
     }
     net.add(AnyCtc::Bound(BoundCtc::new(SignalId(signal), first, last, range)))?;

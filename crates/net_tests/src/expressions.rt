@@ -35,13 +35,14 @@ fn relation(alloc: Global, text: &[u8]) -> Result<Rel, Fail>
     }
 }
 
-// What a name stands for: `s` and `r` for the first two signals, `x` and `y`, or `a` and `b`, for the first two variables.
+// What a name stands for: `s` and `r` for the first two signals, `x` and `y`, or `a`, `b` and `c`, for the first variables.
 fn leaf_of(name: &[u8]) -> Result<Leaf, Fail> {
     match name {
         [b's'] => Ok(Leaf::Sig(SignalId(0))),
         [b'r'] => Ok(Leaf::Sig(SignalId(1))),
         [b'x' | b'a'] => Ok(Leaf::Var(VarId(0))),
         [b'y' | b'b'] => Ok(Leaf::Var(VarId(1))),
+        [b'c'] => Ok(Leaf::Var(VarId(2))),
         _ => Err(Fail::from("no such name")),
     }
 }
@@ -65,7 +66,7 @@ fn bind(term: &Term, bound: &mut Vec<Leaf>) -> Result<(), Fail>
 }
 
 // The relation of a text, as a program over the first signals and variables.
-fn program(alloc: Global, text: &[u8]) -> Result<Flat, Fail> {
+pub(crate) fn program(alloc: Global, text: &[u8]) -> Result<Flat, Fail> {
     let rel = relation(alloc, text)?;
     let mut leaves = Vec::new(alloc);
     bind(&rel.left, &mut leaves)?;
@@ -87,7 +88,7 @@ fn has_cell(store: &Store, place: Place, leaf: Leaf) -> bool
     }
 }
 
-fn have_cells(store: &Store, place: Place, leaves: &[Leaf]) -> bool
+pub(crate) fn have_cells(store: &Store, place: Place, leaves: &[Leaf]) -> bool
     ensures { IsTrue result → ExprFits store.now.shape place leaves.now }
 {
     leaves.iter().all(|leaf| has_cell(store, place, *leaf))
@@ -95,7 +96,7 @@ fn have_cells(store: &Store, place: Place, leaves: &[Leaf]) -> bool
 
 // Adds a relation at a place.
 fn add_at(net: &mut Net<ExprCtc>, flat: Rc<Flat>, place: Place) -> Result<(), Fail> {
-    if net.len() >= 4_000_000_000 || !have_cells(net.store(), place, flat.leaves()) {
+    if net.numbers() >= 4_000_000_000 || !have_cells(net.store(), place, flat.leaves()) {
         return Err(Fail::from("no such cell"));
     }
     net.add(ExprCtc::new(flat, place))?;
@@ -116,7 +117,7 @@ fn add(alloc: Global, net: &mut Net<ExprCtc>, text: &[u8]) -> Result<(), Fail> {
 }
 
 // A declared range.
-fn range_from(bounds: (i64, i64)) -> Result<Interval, Fail>
+pub(crate) fn range_from(bounds: (i64, i64)) -> Result<Interval, Fail>
     ensures { IfOk result (IsBounded 500000000) }
 {
     let (lo, hi) = bounds;
@@ -178,7 +179,7 @@ fn settled<L: Ledger>(
     Ok((answer, net.into_store()))
 }
 
-const ORDERS: [Order; 3] = [Order::Fifo, Order::Lifo, Order::Rank];
+pub(crate) const ORDERS: [Order; 3] = [Order::Fifo, Order::Lifo, Order::Rank];
 
 // Settles a problem in each order, with a budget above every measure, and compares the cells.
 fn settles_to(alloc: Global, problem: &Problem, wanted: &[(i64, i64)]) -> Result<(), Fail> {

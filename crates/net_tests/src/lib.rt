@@ -8,3 +8,5 @@ mod dead_reckoning;
 mod expressions;
 #[cfg(test)]
 mod localising;
+#[cfg(test)]
+mod orders;

@@ -63,7 +63,10 @@ fn range_of(bounds: (i64, i64)) -> Result<Interval, Fail>
 // Adds a contractor that reads a signal over a slice, for each slice.
 fn add_slices(net: &mut Net<AnyCtc>, signal: u32) -> Result<(), Fail> {
     for slice in 0..net.store().slices() {
-        if signal >= net.store().signals() || slice >= net.store().slices() || net.len() >= MANY {
+        if signal >= net.store().signals()
+            || slice >= net.store().slices()
+            || net.numbers() >= MANY
+        {
             return Err(Fail::from("no such slice"));
         }
         net.add(AnyCtc::Slice(SliceCtc::new(SignalId(signal), slice)))?;
@@ -74,7 +77,11 @@ fn add_slices(net: &mut Net<AnyCtc>, signal: u32) -> Result<(), Fail> {
 fn add_rates(net: &mut Net<AnyCtc>, x: u32, rate: u32) -> Result<(), Fail> {
     for slice in 0..net.store().slices() {
         let signals = net.store().signals();
-        if x >= signals || rate >= signals || slice >= net.store().slices() || net.len() >= MANY {
+        if x >= signals
+            || rate >= signals
+            || slice >= net.store().slices()
+            || net.numbers() >= MANY
+        {
             return Err(Fail::from("no such rate"));
         }
         net.add(AnyCtc::Deriv(DerivCtc::new(SignalId(x), SignalId(rate), slice)))?;
@@ -92,7 +99,7 @@ fn add_value(
 ) -> Result<(), Fail> {
     let signals = net.store().signals();
     let vars = net.store().vars();
-    if x >= signals || t >= vars || z >= vars || net.len() >= MANY {
+    if x >= signals || t >= vars || z >= vars || net.numbers() >= MANY {
         return Err(Fail::from("no such value"));
     }
     let rate = match rate {
@@ -112,7 +119,7 @@ fn add_variable(net: &mut Net<AnyCtc>, bounds: (i64, i64)) -> Result<u32, Fail> 
 
 fn add_later(net: &mut Net<AnyCtc>, x: u32, y: u32, tau: u32) -> Result<(), Fail> {
     let signals = net.store().signals();
-    if x >= signals || y >= signals || tau >= net.store().vars() || net.len() >= MANY - 3 {
+    if x >= signals || y >= signals || tau >= net.store().vars() || net.numbers() >= MANY - 3 {
         return Err(Fail::from("no such delay"));
     }
     net.add(AnyCtc::DelayTo(DelayTo::new(SignalId(x), SignalId(y), VarId(tau))))?;
@@ -130,7 +137,7 @@ fn add_distance(
     far: i64,
 ) -> Result<(), Fail> {
     let vars = net.store().vars();
-    if p.0 >= vars || p.1 >= vars || b.0 >= vars || b.1 >= vars || net.len() >= MANY {
+    if p.0 >= vars || p.1 >= vars || b.0 >= vars || b.1 >= vars || net.numbers() >= MANY {
         return Err(Fail::from("no such point"));
     }
     if near < 0 || near > far || far > 2_000_000_000 {
@@ -143,7 +150,7 @@ fn add_distance(
 
 // Adds the distance, in space, of the points of the first three variables and of the next three.
 fn add_apart(net: &mut Net<AnyCtc>, near: i64, far: i64) -> Result<(), Fail> {
-    if net.store().vars() < 6 || net.len() >= MANY {
+    if net.store().vars() < 6 || net.numbers() >= MANY {
         return Err(Fail::from("no such point"));
     }
     if near < 0 || near > far || far > 2_000_000_000 {
@@ -169,7 +176,7 @@ fn add_one_of_two(
     if p.0 >= vars || p.1 >= vars || one.0 >= vars || one.1 >= vars {
         return Err(Fail::from("no such point"));
     }
-    if other.0 >= vars || other.1 >= vars || net.len() >= MANY {
+    if other.0 >= vars || other.1 >= vars || net.numbers() >= MANY {
         return Err(Fail::from("no such mark"));
     }
     let marks = vec![in alloc;

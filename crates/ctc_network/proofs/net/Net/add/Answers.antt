@@ -1,7 +1,8 @@
-use Rattle.std.proofs.Common.{◌≡◌, ◌+◌, ◌<◌, ◌≤◌, ◌++◌, [], ◌∷◌, ℕ, List, Bool, true, length, map, sym, subst, ap, ◌∙◌, arith}
+use Rattle.std.proofs.Common.{◌≡◌, ◌+◌, ◌<◌, ◌≤◌, ◌++◌, [], ◌∷◌, ℕ, Option, Some, List, Bool, true, length, map, sym, subst, ap, ◌∙◌, arith}
 use Rattle.cell_readers.specs.Entries.{Table}
-use Rattle.ctc_network.specs.Nets.{NetState, IsKept, IsTableOf}
+use Rattle.ctc_network.specs.Nets.{NetState, IsNetKept, IsTableOf, of_place, fits_place, entries_of}
 use Rattle.ctc_network.proofs.Keeping.{kept-added}
+use Rattle.ctc_network.proofs.Holes.{below, covered, there-more, count-more}
 use Rattle.ctc_network.proofs.Waking.{table-covered, sum-scopes}
 use Rattle.ctc_network.proofs.net.Net.add.Goals as goal
 
@@ -10,21 +11,17 @@ invariant_of-self-in_err-cover g c =
     let K = g.C.Contractor in
     let T = g.row.C.Denot in
     let n = c.self.inside in
-    subst (λ (cs : List T). IsKept K.projections K.scope K.fits (record { store = n.store; contractors = cs; waiting = n.waiting }) c.cover.new.self n.entries) (sym c.reserve.ensures.items) record {
-      state = c.self.invariant.state;
-      table_of = table-covered (map (λ x. K.scope x n.store.shape) n.contractors.items) n.readers c.cover.new.self n.entries c.self.invariant.table_of c.cover.ensures.same c.cover.ensures.entries c.cover.ensures.contractors;
-    }
+    subst (λ (cs : List (Option T)). IsNetKept K.projections K.scope K.fits (record { store = n.store; contractors = cs; waiting = n.waiting }) c.cover.new.self n.entries n.count) (sym {A = List (Option T)} c.reserve.ensures.items)
+    (covered g.row.C.Denot K.projections K.scope K.fits n.store n.contractors.items n.waiting n.readers c.cover.new.self n.entries n.count c.self.invariant c.cover.ensures.same c.cover.ensures.entries c.cover.ensures.contractors)
 
 pub invariant_of-self-in_err-push_number : goal.invariant_of-self-in_err-push_number
 invariant_of-self-in_err-push_number g c =
     let K = g.C.Contractor in
     let T = g.row.C.Denot in
     let n = c.self.inside in
-    subst (λ (ws : List Bool). IsKept K.projections K.scope K.fits (record { store = n.store; contractors = c.reserve.new.self.items; waiting = ws }) c.cover.new.self n.entries) (sym c.in_err-push_number.ensures.err)
-    (subst (λ (cs : List T). IsKept K.projections K.scope K.fits (record { store = n.store; contractors = cs; waiting = n.waiting }) c.cover.new.self n.entries) (sym c.reserve.ensures.items) record {
-      state = c.self.invariant.state;
-      table_of = table-covered (map (λ x. K.scope x n.store.shape) n.contractors.items) n.readers c.cover.new.self n.entries c.self.invariant.table_of c.cover.ensures.same c.cover.ensures.entries c.cover.ensures.contractors;
-    })
+    subst (λ (ws : List Bool). IsNetKept K.projections K.scope K.fits (record { store = n.store; contractors = c.reserve.new.self.items; waiting = ws }) c.cover.new.self n.entries n.count) (sym c.in_err-push_number.ensures.err)
+    (subst (λ (cs : List (Option T)). IsNetKept K.projections K.scope K.fits (record { store = n.store; contractors = cs; waiting = n.waiting }) c.cover.new.self n.entries n.count) (sym {A = List (Option T)} c.reserve.ensures.items)
+    (covered g.row.C.Denot K.projections K.scope K.fits n.store n.contractors.items n.waiting n.readers c.cover.new.self n.entries n.count c.self.invariant c.cover.ensures.same c.cover.ensures.entries c.cover.ensures.contractors))
 
 pub invariant_of-self-2 : goal.invariant_of-self-2
 invariant_of-self-2 g c =
@@ -32,14 +29,19 @@ invariant_of-self-2 g c =
     let T = g.row.C.Denot in
     let n = c.self.inside in
     let cs = n.contractors.items in
-    let scopes : List (List ℕ) = map (λ x. K.scope x n.store.shape) cs in
+    let scopes : List (List ℕ) = map (λ x. of_place K.scope x n.store.shape) cs in
     let few : length cs < 4000000000 = subst (λ (v : NetState T). length v.contractors < 4000000000) (sym c.self.view_is) c.requires.few in
     let fit : K.fits c.args.c n.store.shape n.store.box = subst (λ (v : NetState T). K.fits c.args.c v.store.shape v.store.box) (sym c.self.view_is) c.requires.fits in
-    let items : c.push_reserved.new.self.items ≡ cs ++ c.args.c ∷ [] = c.push_reserved.ensures.items ∙ ap (λ (ks : List T). ks ++ c.args.c ∷ []) c.reserve.ensures.items in
-    let low : n.entries ≤ 20000000 = subst (λ m. m ≤ 20000000) (sym (c.self.invariant.table_of.sum ∙ sum-scopes (λ x. K.scope x n.store.shape) cs)) c.self.invariant.state.net.entries in
-    let covered : IsTableOf scopes c.cover.new.self n.entries = table-covered scopes n.readers c.cover.new.self n.entries c.self.invariant.table_of c.cover.ensures.same c.cover.ensures.entries c.cover.ensures.contractors in
-    subst (λ (ks : List T). IsKept K.projections K.scope K.fits (record { store = n.store; contractors = ks; waiting = c.push_number.new.self }) c.add.new.self (n.entries + c.reads-reads.result)) (sym items)
-    (subst (λ (ws : List Bool). IsKept K.projections K.scope K.fits (record { store = n.store; contractors = cs ++ c.args.c ∷ []; waiting = ws }) c.add.new.self (n.entries + c.reads-reads.result)) (sym c.in_ok-push_number.ensures.ok)
-    (kept-added T K.projections K.scope K.fits g.met.C.Contractor.fits_below n.store cs n.waiting n.readers c.add.new.self n.entries (n.entries + c.reads-reads.result) c.args.c c.self.invariant
-    few fit (omega (arith, c.if-reads-self.false, low)) (ap (λ r. n.entries + r) c.reads-reads.ensures)
-    (c.add.ensures.exact scopes covered.contractors covered.readers) (c.add.ensures.contractors ∙ ap (λ m. m + 1) c.cover.ensures.contractors) (omega (arith, c.add.ensures.entries, c.cover.ensures.entries))))
+    let items : c.push_reserved.new.self.items ≡ cs ++ Some c.args.c ∷ [] = c.push_reserved.ensures.items ∙ ap (λ (ks : List (Option T)). ks ++ Some c.args.c ∷ []) c.reserve.ensures.items in
+    let sum : c.entries-entries.result ≡ n.entries =
+    c.entries-entries.ensures.sum ∙ sym (c.self.invariant.kept.table_of.sum ∙ sum-scopes (λ x. of_place K.scope x n.store.shape) cs ∙ ap (λ (v : NetState T). entries_of (of_place K.scope) v.store.shape v.contractors) c.self.view_is) in
+    let low : n.entries ≤ 20000000 = subst (λ m. m ≤ 20000000) (sym (c.self.invariant.kept.table_of.sum ∙ sum-scopes (λ x. of_place K.scope x n.store.shape) cs)) c.self.invariant.kept.state.net.entries in
+    let covered : IsTableOf scopes c.cover.new.self n.entries = table-covered scopes n.readers c.cover.new.self n.entries c.self.invariant.kept.table_of c.cover.ensures.same c.cover.ensures.entries c.cover.ensures.contractors in
+    subst (λ (ks : List (Option T)). IsNetKept K.projections K.scope K.fits (record { store = n.store; contractors = ks; waiting = c.push_number.new.self }) c.add.new.self (n.entries + c.reads-reads.result) (n.count + 1)) (sym items)
+    (subst (λ (ws : List Bool). IsNetKept K.projections K.scope K.fits (record { store = n.store; contractors = cs ++ Some c.args.c ∷ []; waiting = ws }) c.add.new.self (n.entries + c.reads-reads.result) (n.count + 1)) (sym c.in_ok-push_number.ensures.ok) record {
+      there = there-more cs n.waiting c.args.c c.self.invariant.kept.state.net.beside c.self.invariant.there;
+      count = omega (arith, c.self.invariant.count, count-more cs c.args.c);
+      kept = kept-added (Option T) (of_place K.projections) (of_place K.scope) (fits_place K.fits) (below T K.projections K.scope K.fits g.met.C.Contractor.fits_below) n.store cs n.waiting n.readers c.add.new.self n.entries (n.entries + c.reads-reads.result) (Some c.args.c) c.self.invariant.kept
+          few fit (omega (arith, c.if-reads-entries.false, low, sum)) (ap (λ r. n.entries + r) c.reads-reads.ensures)
+          (c.add.ensures.exact scopes covered.contractors covered.readers) (c.add.ensures.contractors ∙ ap (λ m. m + 1) c.cover.ensures.contractors) (omega (arith, c.add.ensures.entries, c.cover.ensures.entries));
+    })

@@ -1,16 +1,22 @@
-use Rattle.std.proofs.Common.{sym, subst}
+use Rattle.std.proofs.Common.{Option, sym, subst}
 use Rattle.tube_spec.specs.Owner.{SignalIn}
 use Rattle.tube_store.specs.State.{State, IsStore}
-use Rattle.ctc_network.specs.Nets.{IsKept}
+use Rattle.ctc_network.specs.Nets.{IsNetKept, of_place, fits_place}
 use Rattle.ctc_network.proofs.Keeping.{kept-grown}
+use Rattle.ctc_network.proofs.Holes.{below, reads-only, local, in-store, more, same-list}
 use Rattle.ctc_network.proofs.net.Net.add_signal.Goals as goal
 
 pub invariant_of-self-2 : goal.invariant_of-self-2
 invariant_of-self-2 g c =
     let K = g.C.Contractor in
     let m = g.met.C.Contractor in
+    let T = g.row.C.Denot in
     let n = c.self.inside in
     let grown = c.in_ok-id.ensures.ok in
-    subst (λ (s : State). IsKept K.projections K.scope K.fits (record { store = s; contractors = n.contractors.items; waiting = n.waiting }) n.readers n.entries) (sym grown)
-    (kept-grown g.row.C.Denot K.projections K.scope K.fits m.fits_below m.reads_only m.fits_local m.in_store m.fits_more m.same_projections m.same_scope n.store (SignalIn c.args.range) n.contractors.items n.waiting n.readers n.entries c.self.invariant
-    (subst IsStore grown c.known.ensures))
+    subst (λ (s : State). IsNetKept K.projections K.scope K.fits (record { store = s; contractors = n.contractors.items; waiting = n.waiting }) n.readers n.entries n.count) (sym grown) record {
+      kept = kept-grown (Option T) (of_place K.projections) (of_place K.scope) (fits_place K.fits) (below T K.projections K.scope K.fits m.fits_below) (reads-only T K.projections K.scope K.fits m.reads_only) (local T K.projections K.scope K.fits m.fits_local)
+          (in-store T K.projections K.scope K.fits m.in_store) (more T K.projections K.scope K.fits m.fits_more) (same-list T K.projections K.scope K.fits K.projections m.same_projections) (same-list T K.projections K.scope K.fits K.scope m.same_scope)
+          n.store (SignalIn c.args.range) n.contractors.items n.waiting n.readers n.entries c.self.invariant.kept (subst IsStore grown c.known.ensures);
+      there = c.self.invariant.there;
+      count = c.self.invariant.count;
+    }

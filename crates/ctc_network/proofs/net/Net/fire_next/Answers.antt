@@ -1,11 +1,12 @@
-use Rattle.std.proofs.Common.{◌≡◌, ◌<◌, ◌+◌, ◌≤◌, Some, true, false, List, Bool, length, IsSome, sym, ap, subst, ◌∙◌, slice_get, set, length-set, flat_map, arith}
+use Rattle.std.proofs.Common.{◌≡◌, ◌<◌, ◌+◌, ◌≤◌, Option, Some, true, false, List, Bool, length, IsSome, sym, ap, subst, ◌∙◌, slice_get, set, length-set, flat_map, arith}
 use Rattle.std.proofs.lemmas.Option.{slice_get_within}
 use Rattle.ctc_core.specs.Answers.{MatchRevised}
 use Rattle.ctc_core.specs.declared.Revised.{Revised}
 use Rattle.cell_readers.specs.Costs.{potential}
-use Rattle.ctc_network.specs.Nets.{NetState, IsNet, readers_of}
+use Rattle.ctc_network.specs.Nets.{NetState, AreThere, of_place, fits_place, readers_of}
 use Rattle.ctc_network.specs.Settling.{IsNarrowedBy}
 use Rattle.ctc_network.proofs.Firing.{noted-net, noted-narrowed, noted-falls, noted-same, noted-says, kept-table, quiet-taken}
+use Rattle.ctc_network.proofs.Holes.{below, reads-only, there-rested, noted-there, place-there}
 use Rattle.ctc_network.proofs.Waking.{inside-there, set-again}
 use Rattle.ctc_network.proofs.net.Net.fire_next.Goals as goal
 
@@ -17,19 +18,25 @@ invariant_of-self-2 g c =
     let n = c.self.inside in
     let k = c.in_ok-number.number in
     let t = c.in_ok-number.ensures in
-    let l : k < length n.contractors.items = omega (arith, slice_get_within n.waiting k true t.0, c.self.invariant.state.net.beside) in
+    let l : k < length n.contractors.items = omega (arith, slice_get_within n.waiting k true t.0, c.self.invariant.kept.state.net.beside) in
     let there : slice_get n.contractors.items k ≡ Some c.index.result.now = inside-there n.contractors.items k c.index.result.now l c.index.ensures in
     let r = c.revise-answer.ensures.revised in
     record {
-      state = noted-net T K.projections K.scope K.fits m.fits_below m.reads_only n.store c.revise-answer.new.store n.contractors.items n.waiting c.take.new.waiting k c.index.result.now c.self.invariant.state there
-          (ap length t.1 ∙ length-set n.waiting k false) (quiet-taken n.waiting c.take.new.waiting k t.1) (ap (λ (ws : List Bool). set ws k false) t.1 ∙ set-again n.waiting k false false)
-          n.readers.readers c.self.invariant.table_of.readers c.revise-answer.result c.note.new.store c.note.new.waiting r c.note.ensures;
-      table_of = kept-table K.scope n.contractors.items n.store.shape c.note.new.store.shape n.readers n.entries
-          ((noted-same T K.projections K.scope K.fits m.fits_below m.reads_only c.revise-answer.result k n.readers.readers c.revise-answer.new.store c.note.new.store c.take.new.waiting c.note.new.waiting c.note.ensures).0 ∙ r.revised.shape) c.self.invariant.table_of;
+      kept = record {
+        state = noted-net (Option T) (of_place K.projections) (of_place K.scope) (fits_place K.fits) (below T K.projections K.scope K.fits m.fits_below) (reads-only T K.projections K.scope K.fits m.reads_only) n.store c.revise-answer.new.store n.contractors.items n.waiting c.take.new.waiting k c.index.result.now c.self.invariant.kept.state there
+            (ap length t.1 ∙ length-set n.waiting k false) (quiet-taken n.waiting c.take.new.waiting k t.1) (ap (λ (ws : List Bool). set ws k false) t.1 ∙ set-again n.waiting k false false)
+            n.readers.readers c.self.invariant.kept.table_of.readers c.revise-answer.result c.note.new.store c.note.new.waiting r c.note.ensures;
+        table_of = kept-table (of_place K.scope) n.contractors.items n.store.shape c.note.new.store.shape n.readers n.entries
+            ((noted-same (Option T) (of_place K.projections) (of_place K.scope) (fits_place K.fits) (below T K.projections K.scope K.fits m.fits_below) (reads-only T K.projections K.scope K.fits m.reads_only) c.revise-answer.result k n.readers.readers c.revise-answer.new.store c.note.new.store c.take.new.waiting c.note.new.waiting c.note.ensures).0 ∙ r.revised.shape) c.self.invariant.kept.table_of;
+      };
+      there = noted-there K.scope n.store.shape n.contractors.items n.readers.readers c.self.invariant.kept.table_of.readers c.revise-answer.result k c.revise-answer.new.store c.note.new.store c.take.new.waiting c.note.new.waiting
+          (c.self.invariant.there k t.0)
+          (subst (λ (ws : List Bool). AreThere n.contractors.items ws) (sym t.1) (there-rested n.contractors.items n.waiting k c.self.invariant.there)) c.note.ensures;
+      count = c.self.invariant.count;
     }
 
 pub returns-clause-net : goal.returns-clause-net
-returns-clause-net g c = (invariant_of-self-2 g c).state.net
+returns-clause-net g c = (invariant_of-self-2 g c).kept.state.net
 
 pub returns-clause-narrowed : goal.returns-clause-narrowed
 returns-clause-narrowed g c =
@@ -39,18 +46,19 @@ returns-clause-narrowed g c =
     let n = c.self.inside in
     let k = c.in_ok-number.number in
     let t = c.in_ok-number.ensures in
-    let l : k < length n.contractors.items = omega (arith, slice_get_within n.waiting k true t.0, c.self.invariant.state.net.beside) in
+    let l : k < length n.contractors.items = omega (arith, slice_get_within n.waiting k true t.0, c.self.invariant.kept.state.net.beside) in
     let there : slice_get n.contractors.items k ≡ Some c.index.result.now = inside-there n.contractors.items k c.index.result.now l c.index.ensures in
-    subst (λ (v : NetState T). IsNarrowedBy (flat_map (λ d. K.projections d v.store.shape) v.contractors) v.store c.note.new.store) c.self.view_is
-    (noted-narrowed T K.projections K.scope K.fits m.fits_below m.reads_only n.contractors.items c.index.result.now c.revise-answer.result k n.readers.readers n.store c.revise-answer.new.store c.note.new.store c.take.new.waiting c.note.new.waiting there
+    subst (λ (v : NetState T). IsNarrowedBy (flat_map (λ d. of_place K.projections d v.store.shape) v.contractors) v.store c.note.new.store) c.self.view_is
+    (noted-narrowed (Option T) (of_place K.projections) (of_place K.scope) (fits_place K.fits) (below T K.projections K.scope K.fits m.fits_below) (reads-only T K.projections K.scope K.fits m.reads_only) n.contractors.items c.index.result.now c.revise-answer.result k n.readers.readers n.store c.revise-answer.new.store c.note.new.store c.take.new.waiting c.note.new.waiting there
     c.revise-answer.ensures.revised c.note.ensures)
 
 pub returns-clause-says : goal.returns-clause-says
 returns-clause-says g c =
     let K = g.C.Contractor in
     let m = g.met.C.Contractor in
+    let T = g.row.C.Denot in
     let n = c.self.inside in
-    noted-says g.row.C.Denot K.projections K.scope K.fits m.fits_below m.reads_only (K.projections c.index.result.now n.store.shape) c.revise-answer.result c.in_ok-number.number n.readers.readers n.store c.revise-answer.new.store c.note.new.store c.take.new.waiting c.note.new.waiting
+    noted-says (Option T) (of_place K.projections) (of_place K.scope) (fits_place K.fits) (below T K.projections K.scope K.fits m.fits_below) (reads-only T K.projections K.scope K.fits m.reads_only) (of_place K.projections c.index.result.now n.store.shape) c.revise-answer.result c.in_ok-number.number n.readers.readers n.store c.revise-answer.new.store c.note.new.store c.take.new.waiting c.note.new.waiting
     c.revise-answer.ensures.revised c.note.ensures
 
 pub returns-clause-falls : goal.returns-clause-falls
@@ -62,8 +70,16 @@ returns-clause-falls g c =
     let k = c.in_ok-number.number in
     let t = c.in_ok-number.ensures in
     let some : IsSome n.store.box = subst (λ (v : NetState T). IsSome v.store.box) (sym c.self.view_is) c.requires in
-    let l : k < length n.contractors.items = omega (arith, slice_get_within n.waiting k true t.0, c.self.invariant.state.net.beside) in
+    let l : k < length n.contractors.items = omega (arith, slice_get_within n.waiting k true t.0, c.self.invariant.kept.state.net.beside) in
     let there : slice_get n.contractors.items k ≡ Some c.index.result.now = inside-there n.contractors.items k c.index.result.now l c.index.ensures in
-    subst (λ (v : NetState T). potential (readers_of K.scope v.store.shape v.contractors) c.note.new.waiting c.note.new.store.box + 1 ≤ potential (readers_of K.scope v.store.shape v.contractors) v.waiting v.store.box) c.self.view_is
-    (noted-falls T K.projections K.scope K.fits m.fits_below m.reads_only n.store c.revise-answer.new.store c.note.new.store n.contractors.items n.waiting c.take.new.waiting c.note.new.waiting k c.index.result.now c.revise-answer.result n.readers.readers
-    c.self.invariant.state c.self.invariant.table_of.readers some there t.0 t.1 c.revise-answer.ensures.revised c.note.ensures)
+    subst (λ (v : NetState T). potential (readers_of (of_place K.scope) v.store.shape v.contractors) c.note.new.waiting c.note.new.store.box + 1 ≤ potential (readers_of (of_place K.scope) v.store.shape v.contractors) v.waiting v.store.box) c.self.view_is
+    (noted-falls (Option T) (of_place K.projections) (of_place K.scope) (fits_place K.fits) (below T K.projections K.scope K.fits m.fits_below) (reads-only T K.projections K.scope K.fits m.reads_only) n.store c.revise-answer.new.store c.note.new.store n.contractors.items n.waiting c.take.new.waiting c.note.new.waiting k c.index.result.now c.revise-answer.result n.readers.readers
+    c.self.invariant.kept.state c.self.invariant.kept.table_of.readers some there t.0 t.1 c.revise-answer.ensures.revised c.note.ensures)
+
+pub revise-answer-requires-clause-there : goal.revise-answer-requires-clause-there
+revise-answer-requires-clause-there g c =
+    let n = c.self.inside in
+    let k = c.in_ok-number.number in
+    let t = c.in_ok-number.ensures in
+    let l : k < length n.contractors.items = omega (arith, slice_get_within n.waiting k true t.0, c.self.invariant.kept.state.net.beside) in
+    place-there n.contractors.items k c.index.result.now (inside-there n.contractors.items k c.index.result.now l c.index.ensures) (c.self.invariant.there k t.0)
