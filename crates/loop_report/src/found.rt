@@ -102,10 +102,7 @@ fn write_runs<K: Sink>(runs: &[Run], sink: &mut K) -> Result<(), WriteFault>
     ensures { Sends K.written K.flushed K.faults (flat_map run_line runs.now) sink.old sink.new result }
 {
     for run in runs {
-        match write_run(*run, sink) {
-            Ok(()) => {}
-            Err(fault) => return Err(fault),
-        }
+        write_run(*run, sink)?;
     }
     Ok(())
 }
@@ -119,12 +116,8 @@ pub(crate) fn write_set<K: Sink>(
 ) -> Result<(), WriteFault>
     ensures { Sends K.written K.flushed K.faults (set_text brief number found.now) sink.old sink.new result }
 {
-    if let Err(fault) = write_set_front(number, &found.set, sink) {
-        return Err(fault);
-    }
-    if let Err(fault) = write_finding(found.finding, sink) {
-        return Err(fault);
-    }
+    write_set_front(number, &found.set, sink)?;
+    write_finding(found.finding, sink)?;
     if brief {
         return Ok(());
     }

@@ -52,10 +52,7 @@ fn write_sets<K: Sink>(sets: &[Found], brief: bool, sink: &mut K) -> Result<(), 
 {
     let mut number = 1;
     for found in sets {
-        match write_set(number, found, brief, sink) {
-            Ok(()) => {}
-            Err(fault) => return Err(fault),
-        }
+        write_set(number, found, brief, sink)?;
         number += 1;
     }
     Ok(())
@@ -69,12 +66,8 @@ fn write_found<K: Sink>(
 ) -> Result<(), WriteFault>
     ensures { Sends K.written K.flushed K.faults (loops_text number (Some sets.now) brief) sink.old sink.new result }
 {
-    if let Err(fault) = write_sets_line(number, sets.len() as u64, sink) {
-        return Err(fault);
-    }
-    if let Err(fault) = write_sets(sets, brief, sink) {
-        return Err(fault);
-    }
+    write_sets_line(number, sets.len() as u64, sink)?;
+    write_sets(sets, brief, sink)?;
     write_done_line(number, sink)
 }
 
@@ -89,9 +82,7 @@ pub fn write_loops<K: Sink>(
     ensures { Sends K.written K.flushed K.faults (loops_text number (option_copied found.entry) brief) sink.old sink.new result }
 {
     let Some(sets) = found else {
-        if let Err(fault) = write_crowded_line(number, sink) {
-            return Err(fault);
-        }
+        write_crowded_line(number, sink)?;
         return write_done_line(number, sink);
     };
     write_found(number, sets, brief, sink)
