@@ -1,3 +1,4 @@
 pub mod Reading
 pub mod Stable
 pub mod Examples
+pub mod Pairs

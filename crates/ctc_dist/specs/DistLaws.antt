@@ -53,14 +53,14 @@ module _ (p b : List ℕ) (q : Span) (xs ys : List Span) (good : IsBox xs) (low 
       back_sqr-mono (difference p b xs i) (sub_of q (other_squares p b xs i)) (difference p b ys i) (sub_of q (other_squares p b ys i)) (difference-mono i)
       (sub-mono q (other_squares p b xs i) q (other_squares p b ys i) (IsWithin-refl q) (span_sum-mono (square_but p b xs i) (square_but p b ys i) (dimension p b) (square-mono i)))
 
-forth-mono : (Fits : List Span → Type 0) (p b : List ℕ) (q : Span) (i : ℕ) → IsMonotone Fits (forth p b q i)
+pub forth-mono : (Fits : List Span → Type 0) (p b : List ℕ) (q : Span) (i : ℕ) → IsMonotone Fits (forth p b q i)
 forth-mono Fits p b q i xs ys bx by fits low =
     let x = cell_at xs (slice_index b i) in
     let y = cell_at ys (slice_index b i) in
     narrowing_of-mono (option_map (add_of x) (offset_of p b q xs i)) (option_map (add_of y) (offset_of p b q ys i))
     (option-mono (add_of x) (add_of y) (offset_of p b q xs i) (offset_of p b q ys i) (λ s t w. add-mono x s y t (low.each (slice_index b i)) w) (offset-mono p b q xs ys bx low i))
 
-back-mono : (Fits : List Span → Type 0) (p b : List ℕ) (q : Span) (i : ℕ) → IsMonotone Fits (back p b q i)
+pub back-mono : (Fits : List Span → Type 0) (p b : List ℕ) (q : Span) (i : ℕ) → IsMonotone Fits (back p b q i)
 back-mono Fits p b q i xs ys bx by fits low =
     let x = cell_at xs (slice_index p i) in
     let y = cell_at ys (slice_index p i) in

@@ -1,3 +1,4 @@
 pub mod Distances
 pub mod PointLaws
 pub mod DistLaws
+pub mod Fixed

@@ -1,15 +1,18 @@
 //! The contractor of a distance between two points.
 
-ghost use Rattle.std.specs.Prelude.{◌≡◌, ◌+◌, ◌++◌, ◌<◌, ◌≤◌, ◌≤ℤ◌, IsSome, IfSome, length, slice_index, pos};
+ghost use Rattle.std.specs.Prelude.{◌≡◌, ◌+◌, [], ◌∷◌, ◌++◌, ◌<◌, ◌≤◌, ◌≤ℤ◌, IsSome, IfSome, length, option_map, slice_index, pos};
 ghost use Rattle.tube_spec.specs.Limits.{greatest_bound, greatest_radius};
-ghost use Rattle.tube_spec.specs.Span.{IsBounded, IsWithin};
+ghost use Rattle.tube_spec.specs.Span.{IsBounded, IsWithin, add_of, sub_of};
+ghost use Rattle.tube_spec.specs.Narrowing.{narrowing_of};
 ghost use Rattle.tube_spec.specs.Box.{cell_at};
+ghost use Rattle.ctc_core.specs.Answers.{Revises};
 ghost use Rattle.ctc_core.specs.Given.{narrowing_given};
 ghost use Rattle.tube_names.specs.Points.{numbers, cells_of};
-ghost use Rattle.ctc_dist.specs.Distances.{DistFits, difference, square_but, other_squares, offset_of, squares_from, forth, back};
+ghost use Rattle.ctc_dist.specs.Fixed.{fixed};
+ghost use Rattle.ctc_dist.specs.Distances.{DistFits, dist_projections, difference, square_but, other_squares, offset_of, squares_from, forth, back};
 
 use super::squares::{square, squares, zero};
-use ctc_core::{Contractor, Formulas, Given, Revised, revise_by_formulas, still_by_formulas};
+use ctc_core::{Contractor, Formulas, Given, Revised, hold, start, still_by_formulas};
 use int_interval::Interval;
 use std::sync::ledger::Ledger;
 use step_count::Steps;
@@ -36,6 +39,71 @@ fn value(store: &Store, var: VarId) -> Interval
     ensures bounded { IsBounded greatest_bound result }
 {
     store.get(store.var(var))
+}
+
+// A value and what is left of the difference to another one, where anything is left.
+fn more_by(value: Interval, offset: Option<Interval>) -> Option<Interval>
+    requires value { IsBounded greatest_bound value }
+    requires offset { IfSome offset (IsBounded 1000000000) }
+    ensures { result ≡ option_map (add_of value) offset }
+{
+    match offset {
+        Some(offset) => Some(value.add(offset)),
+        None => None,
+    }
+}
+
+// A value less that.
+fn less_by(value: Interval, offset: Option<Interval>) -> Option<Interval>
+    requires value { IsBounded greatest_bound value }
+    requires offset { IfSome offset (IsBounded 1000000000) }
+    ensures { result ≡ option_map (sub_of value) offset }
+{
+    match offset {
+        Some(offset) => Some(value.sub(offset)),
+        None => None,
+    }
+}
+
+// The other value and that, and the one value less that.
+fn both_by(
+    one: Interval,
+    other: Interval,
+    offset: Option<Interval>,
+) -> (Option<Interval>, Option<Interval>)
+    requires one { IsBounded greatest_bound one }
+    requires other { IsBounded greatest_bound other }
+    requires offset { IfSome offset (IsBounded 1000000000) }
+    ensures forth { result.0 ≡ option_map (add_of other) offset }
+    ensures back { result.1 ≡ option_map (sub_of one) offset }
+{
+    match offset {
+        Some(offset) => (Some(other.add(offset)), Some(one.sub(offset))),
+        None => (None, None),
+    }
+}
+
+// An interval, or nothing, as what a formula gives.
+fn given_of(hull: Option<Interval>) -> Given
+    ensures { narrowing_given result ≡ narrowing_of hull }
+{
+    match hull {
+        Some(hull) => Given::Within(hull),
+        None => Given::Nothing,
+    }
+}
+
+// Holds a variable by an interval, or by nothing, where the box is not empty.
+fn hold_by(store: &mut Store, var: VarId, to: Option<Interval>) -> Revised
+    requires { var.0 < length store.old.shape.vars }
+    ensures { Revises (fixed (slice_index store.old.shape.vars var.0) to ∷ []) store.old store.new result }
+{
+    store.known();
+    if store.is_empty() {
+        return Revised::Empty;
+    }
+    let cell = store.var(var);
+    hold(store, cell, to)
 }
 
 impl<const N: usize> DistCtc<N> {
@@ -111,10 +179,7 @@ impl<const N: usize> DistCtc<N> {
         requires coordinate { i < N }
         ensures { let s = store.now.shape in let c = self.now in IfSome store.now.box (λ xs. narrowing_given result ≡ (forth (cells_of s (numbers c.p)) (cells_of s (numbers c.b)) (squares_from c.near c.far) i).formula xs) }
     {
-        match self.offset(store, i) {
-            Some(offset) => Given::Within(value(store, self.b[i]).add(offset)),
-            None => Given::Nothing,
-        }
+        given_of(more_by(value(store, self.b[i]), self.offset(store, i)))
     }
 
     // What coordinate `i` of `b` lies in.
@@ -124,10 +189,41 @@ impl<const N: usize> DistCtc<N> {
         requires coordinate { i < N }
         ensures { let s = store.now.shape in let c = self.now in IfSome store.now.box (λ xs. narrowing_given result ≡ (back (cells_of s (numbers c.p)) (cells_of s (numbers c.b)) (squares_from c.near c.far) i).formula xs) }
     {
-        match self.offset(store, i) {
-            Some(offset) => Given::Within(value(store, self.p[i]).sub(offset)),
-            None => Given::Nothing,
+        given_of(less_by(value(store, self.p[i]), self.offset(store, i)))
+    }
+
+    // Fires the projections of coordinate `i`, on `p` and on `b`. What is left of their difference is found once.
+    fn fire_both(&self, store: &mut Store, i: usize) -> Revised
+        requires fits { DistFits store.old.shape (numbers self.now.p) (numbers self.now.b) self.now.near self.now.far }
+        requires coordinate { i < N }
+        ensures { let s = store.old.shape in let c = self.now in
+            let p = cells_of s (numbers c.p) in let b = cells_of s (numbers c.b) in let q = squares_from c.near c.far in
+            Revises (forth p b q i ∷ back p b q i ∷ []) store.old store.new result }
+    {
+        store.known();
+        if store.is_empty() {
+            return Revised::Empty;
         }
+        let one = value(store, self.p[i]);
+        let other = value(store, self.b[i]);
+        let offset = self.offset(store, i);
+        let (forth, back) = both_by(one, other, offset);
+        let first = hold_by(store, self.p[i], forth);
+        let second = hold_by(store, self.b[i], back);
+        first.then(second)
+    }
+
+    // Fires each projection once, coordinate by coordinate.
+    fn fire(&self, store: &mut Store) -> Revised
+        requires { DistFits store.old.shape (numbers self.now.p) (numbers self.now.b) self.now.near self.now.far }
+        ensures { Revises (dist_projections store.old.shape (numbers self.now.p) (numbers self.now.b) self.now.near self.now.far) store.old store.new result }
+    {
+        let mut answer = start(store);
+        for i in 0..N {
+            let next = self.fire_both(store, i);
+            answer = answer.then(next);
+        }
+        answer
     }
 
     // The variable with a number of those of both points.
@@ -220,7 +316,7 @@ impl<const N: usize> Contractor for DistCtc<N> {
 
     fn revise<L: Ledger>(&self, store: &mut Store, steps: &mut Steps<L>) -> Revised {
         steps.tick();
-        revise_by_formulas(self, store)
+        self.fire(store)
     }
 
     fn still<L: Ledger>(&self, store: &Store, steps: &mut Steps<L>) -> bool {
