@@ -2,3 +2,4 @@ pub mod Reading
 pub mod Meeting
 pub mod Stable
 pub mod Examples
+pub mod Passes

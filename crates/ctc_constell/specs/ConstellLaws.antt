@@ -58,7 +58,7 @@ hull-same : (f g : ℕ → Option Span) (n : ℕ) → ((k : ℕ) → k < n → f
 hull-same f g zero h = refl
 hull-same f g (suc n) h = ap₂ join_option (hull-same f g n (λ k l. h k (omega arith))) (h n (omega arith))
 
-projection-mono : (Fits : List Span → Type 0) (p : List ℕ) (marks : List (List ℕ)) (i : ℕ) → IsMonotone Fits (constell_projection p marks i)
+pub projection-mono : (Fits : List Span → Type 0) (p : List ℕ) (marks : List (List ℕ)) (i : ℕ) → IsMonotone Fits (constell_projection p marks i)
 projection-mono Fits p marks i xs ys bx by fits low =
     narrowing_of-mono (left_by_marks p marks xs i) (left_by_marks p marks ys i)
     (hull-mono (λ k. left_by (box_of xs p) (box_of xs (mark_at marks k)) i) (λ k. left_by (box_of ys p) (box_of ys (mark_at marks k)) i) (length marks) (length marks) (λ k l. (k, l, left-mono xs ys low p (mark_at marks k) i)))

@@ -2,3 +2,4 @@ pub mod Points
 pub mod Constellations
 pub mod PointLaws
 pub mod ConstellLaws
+pub mod Fixed

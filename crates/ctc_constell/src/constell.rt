@@ -1,13 +1,14 @@
 //! The contractor of a point that is one of several marks.
 
-ghost use Rattle.std.specs.Prelude.{◌≡◌, ◌+◌, ◌*◌, ◌++◌, ◌<◌, ◌≤◌, IsSome, IfSome, All, length, map, slice_index};
+ghost use Rattle.std.specs.Prelude.{◌≡◌, ◌+◌, ◌*◌, ◌++◌, ◌<◌, ◌≤◌, ℕ, None, IsSome, IfSome, All, length, map, slice_index, slice_index_or};
 ghost use Rattle.std.specs.List.{concat};
 ghost use Rattle.tube_names.specs.Points.{numbers, cells_of};
-ghost use Rattle.ctc_constell.specs.Constellations.{ConstellFits, left_by_marks};
+ghost use Rattle.ctc_core.specs.Answers.{Revises};
+ghost use Rattle.ctc_constell.specs.Constellations.{ConstellFits, constell_projections, left_by_marks};
 ghost use Rattle.tube_spec.specs.Limits.{most_variables};
 
-use super::boxes::{box_of, join, left_by};
-use ctc_core::{Contractor, Formulas, Given, Revised, revise_by_formulas, still_by_formulas};
+use super::boxes::{box_of, hold_by, join, joined, left_by};
+use ctc_core::{Contractor, Formulas, Given, Revised, start, still_by_formulas};
 use int_interval::Interval;
 use std::sync::ledger::Ledger;
 use step_count::Steps;
@@ -48,6 +49,41 @@ impl<const N: usize> ConstellCtc<N> {
             hull = join(hull, left_by(&point, &here, i));
         }
         hull
+    }
+
+    // What the marks leave of each coordinate of the point. Each mark is looked at once.
+    fn lefts(&self, store: &Store) -> [Option<Interval>; N]
+        requires fits { ConstellFits store.now.shape (numbers self.now.p) (map numbers self.now.marks.items) }
+        requires filled { IsSome store.now.box }
+        ensures size { length result ≡ N }
+        ensures each { let s = store.now.shape in (k : ℕ) → k < N → IfSome store.now.box (λ xs. slice_index_or result k None ≡ left_by_marks (cells_of s (numbers self.now.p)) (map (cells_of s) (map numbers self.now.marks.items)) xs k) }
+    {
+        let point = box_of(store, &self.p);
+        let mut hulls = [None; N];
+        for mark in &self.marks {
+            let here = box_of(store, mark);
+            hulls = joined(&point, &here, &hulls);
+        }
+        hulls
+    }
+
+    // Fires each projection once, by what the marks leave before the first of them is narrowed.
+    fn fire(&self, store: &mut Store) -> Revised
+        requires { ConstellFits store.old.shape (numbers self.now.p) (map numbers self.now.marks.items) }
+        ensures { Revises (constell_projections store.old.shape (numbers self.now.p) (map numbers self.now.marks.items)) store.old store.new result }
+    {
+        store.known();
+        if store.is_empty() {
+            return Revised::Empty;
+        }
+        let lefts = self.lefts(store);
+        let mut answer = start(store);
+        for i in 0..N {
+            let var = self.p[i];
+            let next = hold_by(store, var, lefts[i]);
+            answer = answer.then(next);
+        }
+        answer
     }
 
     // The variable with a number of those of the point and of all marks.
@@ -142,7 +178,7 @@ impl<const N: usize> Contractor for ConstellCtc<N> {
 
     fn revise<L: Ledger>(&self, store: &mut Store, steps: &mut Steps<L>) -> Revised {
         steps.tick();
-        revise_by_formulas(self, store)
+        self.fire(store)
     }
 
     fn still<L: Ledger>(&self, store: &Store, steps: &mut Steps<L>) -> bool {
