@@ -1,5 +1,6 @@
 -- What firings and additions leave of marks: where the box is stable under each part that is not marked, it is so again.
 use Rattle.std.proofs.Common.{◌≡◌, ℕ, ◌<◌, Bool, true, false, Option, Some, None, List, ◌++◌, inr, IfSome, sym, subst, arith, length, get_or, All, Contains, pos}
+use Rattle.std.proofs.lemmas.Bool.{both_ways}
 use Rattle.std.proofs.lemmas.List.{get_or_append_left}
 use Rattle.std.proofs.lemmas.List.Elements.{All-contains}
 use Rattle.tube_spec.specs.Span.{Span, point}
@@ -15,7 +16,6 @@ use Rattle.ctc_core.proofs.Firing.{IsBox-of}
 use Rattle.ctc_parts.specs.Parts.{each_below, AreClean}
 use Rattle.ctc_parts.proofs.Members.{each_below-all}
 use Rattle.ctc_parts.proofs.Firing.{IsHeldBy}
-use Rattle.ctc_parts.proofs.Marking.{clash}
 use Rattle.ctc_parts.proofs.Quiet.{held-kept, fixpoint-kept}
 
 module _ (C : Type 0) (projections : C → Shape → List Projection) (fits : C → Shape → Option (List Span) → Type 0) (parts : C → Shape → ℕ) (part : C → Shape → ℕ → List Projection) (part_scope : C → Shape → ℕ → List ℕ)
@@ -30,7 +30,7 @@ module _ (C : Type 0) (projections : C → Shape → List Projection) (fits : C 
   clean-drained c s None (Some ys) touched marked fo fn box low held narrow mark = absurd low
   clean-drained c s (Some xs) (Some ys) touched marked fo fn box low held narrow mark = λ i l m.
       held-kept (λ zs. fits c s (Some zs)) (part_scope c s i) (part c s i) xs ys box low fo fn (part_reads c s i l)
-      (λ k in_part less. clash (marked i) m (mark k i (narrow k less) l in_part))
+      (λ k in_part less. both_ways (marked i) m (mark k i (narrow k less) l in_part))
       (each_below-all (IsHeldBy xs ys) (part c s) (parts c s) i l (subst (λ (ps : List Projection). All (IsHeldBy xs ys) ps) (whole c s) held))
 
   narrower-touched : (before after : List ℕ) (a b : Option (List Span)) → IfBoth a b (λ xs ys. AddsNarrower before after xs ys) → IfBoth a b (λ xs ys. (k : ℕ) → IsNarrower xs ys k → Contains after k)
@@ -53,7 +53,7 @@ module _ (C : Type 0) (projections : C → Shape → List Projection) (fits : C 
       → AreClean (parts c s) (part c s) after (Some ys)
   clean-beside c s xs ys before after fit box low clean kept mark = λ i l m.
       fixpoint-kept (λ zs. fits c s (Some zs)) (part_scope c s i) (part c s i) xs ys box low fit (fits_below c s (Some ys) (Some xs) low fit) (part_reads c s i l)
-      (λ k in_part less. clash (after i) m (mark k i less l in_part)) (clean i l (kept i l m))
+      (λ k in_part less. both_ways (after i) m (mark k i less l in_part)) (clean i l (kept i l m))
 
 module _ (C : Type 0) (projections : C → Shape → List Projection) (scope : C → Shape → List ℕ) (fits : C → Shape → Option (List Span) → Type 0)
     (parts : C → Shape → ℕ) (part : C → Shape → ℕ → List Projection) (part_scope : C → Shape → ℕ → List ℕ)

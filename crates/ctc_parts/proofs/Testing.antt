@@ -1,12 +1,13 @@
 -- Tests of parts one after another.
 use Rattle.std.proofs.Common.{◌≡◌, ℕ, ◌+◌, ◌<◌, ◌⊎◌, inl, inr, Bool, true, false, Option, Some, None, List, refl, sym, subst, arith, All}
+use Rattle.std.proofs.lemmas.Bool.{both_ways}
 use Rattle.std.proofs.lemmas.List.Elements.{All-append}
 use Rattle.tube_spec.specs.Span.{Span}
 use Rattle.tube_spec.specs.Projection.{Projection, IsStable}
 use Rattle.ctc_core.specs.Checking.{Checks}
 use Rattle.ctc_parts.specs.Parts.{each_below, marked_in, AreClean, ChecksMarked, ChecksFlagged}
 use Rattle.ctc_parts.proofs.Members.{All-each_below, each_below-all, each-more, below-more}
-use Rattle.ctc_parts.proofs.Marking.{clash, marked-first}
+use Rattle.ctc_parts.proofs.Marking.{marked-first}
 
 -- a test of the marked parts is one of all, where the box is stable under the others
 pub marked-checks : (n : ℕ) (part : ℕ → List Projection) (marked : ℕ → Bool) (box : Option (List Span)) (held : Bool) → AreClean n part marked box → ChecksMarked n part marked box held → Checks (each_below part n) box held
@@ -28,7 +29,7 @@ checks-more part (Some xs) i held e h k = (λ _. subst (λ (ps : List Projection
 -- one part is not stable
 pub checks-not : (n : ℕ) (part : ℕ → List Projection) (b : Option (List Span)) (i : ℕ) (held : Bool) → i < n → held ≡ false → Checks (part i) b held → Checks (each_below part n) b false
 checks-not n part None i held l e k = tt
-checks-not n part (Some xs) i held l e k = (λ t. absurd (cc), λ a. absurd (clash held e (k.1 (each_below-all (IsStable xs) part n i l a))))
+checks-not n part (Some xs) i held l e k = (λ t. absurd (cc), λ a. absurd (both_ways held e (k.1 (each_below-all (IsStable xs) part n i l a))))
 
 -- below the first number of the range nothing is asked
 pub tested-none : (part : ℕ → List Projection) (marks : List Bool) (first end : ℕ) (b : Option (List Span)) → ChecksMarked first part (marked_in marks first end) b true
@@ -50,7 +51,7 @@ module _ (part : ℕ → List Projection) (marked : ℕ → Bool) where
   -- one part is not stable
   pub tested-not : (n : ℕ) (b : Option (List Span)) (i : ℕ) (flag held : Bool) → i < n → held ≡ false → ChecksFlagged (part i) flag b held → ChecksMarked n part marked b false
   tested-not n None i flag held l e k = tt
-  tested-not n (Some xs) i flag held l e k = (λ t. absurd (cc), λ all. absurd (clash held e (k.1 (all i l))))
+  tested-not n (Some xs) i flag held l e k = (λ t. absurd (cc), λ all. absurd (both_ways held e (k.1 (all i l))))
 
   -- the rest is not marked
   pub tested-rest : (n : ℕ) (b : Option (List Span)) (i : ℕ) → ((j : ℕ) → j < n → (j < i) ⊎ (marked j ≡ false)) → ChecksMarked i part marked b true → ChecksMarked n part marked b true
@@ -58,7 +59,7 @@ module _ (part : ℕ → List Projection) (marked : ℕ → Bool) where
   tested-rest n (Some xs) i rest h = (
     λ _ j l m. elim (rest j l) [
       | inl k ↦ h.0 refl j k m
-      | inr q ↦ absurd (clash (marked j) q m)
+      | inr q ↦ absurd (both_ways (marked j) q m)
     ],
     λ _. refl,
   )

@@ -1,5 +1,6 @@
 -- Sweeps: parts that are visited one after another.
 use Rattle.std.proofs.Common.{◌≡◌, ℕ, ◌+◌, ◌<◌, ◌≤◌, ◌⊎◌, inl, inr, Bool, true, false, Option, Some, None, List, [], ◌∷◌, ◌++◌, IfSome, IsSome, IsNone, refl, sym, subst, ap, ◌∙◌, arith, get_or, All, Contains, flat_map, slice_index_or}
+use Rattle.std.proofs.lemmas.Bool.{both_ways}
 use Rattle.std.proofs.lemmas.Grind.{flat_map-append, common_steps}
 use Rattle.std.proofs.lemmas.List.Elements.{All-append, All-push, All-nil, Contains-append_left, Contains-push}
 use Rattle.tube_spec.specs.Span.{Span}
@@ -16,7 +17,7 @@ use Rattle.ctc_parts.specs.Parts.{each_below, marked_in, AreClean}
 use Rattle.ctc_parts.specs.Sweeping.{Sweeps, IsTurn}
 use Rattle.ctc_parts.proofs.Members.{All-each_below, All-flat_map, flat_map-all, flat_map-below, below-more}
 use Rattle.ctc_parts.proofs.Firing.{IsHeldBy, held-stable, Revises-as}
-use Rattle.ctc_parts.proofs.Marking.{clash, marked-first, marked-end, marked-flag}
+use Rattle.ctc_parts.proofs.Marking.{marked-first, marked-end, marked-flag}
 
 never-both : (b : Option (List Span)) → IsSome b → IsNone b → ⊥
 never-both None s n = absurd (cc)
@@ -67,7 +68,7 @@ module _ (n : ℕ) (part : ℕ → List Projection) (marked : ℕ → Bool) wher
     fired = s.fired;
     cover = λ f j l m. elim (rest j l) [
       | inl l ↦ s.cover f j l m
-      | inr q ↦ absurd (clash (marked j) q m)
+      | inr q ↦ absurd (both_ways (marked j) q m)
     ];
   }
 
@@ -110,7 +111,7 @@ module _ (n : ℕ) (part : ℕ → List Projection) (marked : ℕ → Bool) wher
 pub marked-stands : (marks now : List Bool) (first end i : ℕ) → ((j : ℕ) → i ≤ j → slice_index_or marks j false ≡ true → slice_index_or now j false ≡ true)
     → (v : Bool) → marked_in marks first end i ≡ v → slice_index_or now i false ≡ false → marked_in marks first end i ≡ false
 marked-stands marks now first end i stands false m off = m
-marked-stands marks now first end i stands true m off = absurd (clash (slice_index_or now i false) off (stands i (omega arith) (marked-flag marks first end i m)))
+marked-stands marks now first end i stands true m off = absurd (both_ways (slice_index_or now i false) off (stands i (omega arith) (marked-flag marks first end i m)))
 
 -- below the first number of the range no part is marked
 pub none-before : (marks : List Bool) (first end i : ℕ) → i < first → marked_in marks first end i ≡ true → ⊥
