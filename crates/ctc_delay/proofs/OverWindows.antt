@@ -1,24 +1,24 @@
 -- Hulls over windows: how they join, what they are of a box, and that held places are fired as the formulas are.
-use Rattle.std.proofs.Common.{◌≡◌, ℕ, zero, suc, ◌+◌, ◌-◌, ◌/◌, ◌<◌, ◌≤◌, ◌⊎◌, inl, inr, Option, Some, None, IsSome, IfSome, List, ◌∷◌, ◌++◌, cond, ℤ, pos, negsuc, ◌+ℤ◌, ◌≤ℤ◌, int_le, arith, refl, sym, ap, subst, ◌∙◌, length, map, slice_index, slice_index_or}
+use Rattle.std.proofs.Common.{◌≡◌, ℕ, zero, suc, ◌+◌, ◌-◌, ◌*◌, ◌/◌, ◌<◌, ◌≤◌, ◌⊎◌, inl, inr, Option, Some, None, IsSome, IfSome, List, ◌∷◌, ◌++◌, cond, ℤ, pos, negsuc, ◌+ℤ◌, ◌≤ℤ◌, int_le, arith, refl, sym, ap, subst, ◌∙◌, All, length, map, slice_index, slice_index_or}
 use Rattle.std.specs.List.{range_with_len}
 use Rattle.std.proofs.lemmas.Bool.{cases_lt}
 use Rattle.std.proofs.lemmas.Int.{ints}
 use Rattle.std.proofs.lemmas.List.{map-append}
 use Rattle.std.proofs.lemmas.List.FromFn.{length-map-range_with_len, get_or-map-range_with_len}
 use Rattle.tube_spec.specs.Span.{Span, IsWithin, join_of, point}
-use Rattle.tube_spec.specs.Narrowing.{Within, Whole, narrowing_of}
+use Rattle.tube_spec.specs.Narrowing.{Narrowing, Within, Whole, narrowing_of}
 use Rattle.tube_spec.specs.Grid.{IsGrid, last_tick}
 use Rattle.tube_spec.specs.Shape.{Shape}
 use Rattle.tube_spec.specs.Box.{cell_at}
-use Rattle.tube_spec.specs.Tick.{join_over, over_ticks}
+use Rattle.tube_spec.specs.Tick.{join_over}
 use Rattle.tube_spec.specs.Projection.{Projection}
-use Rattle.tube_spec.proofs.Spans.{IsWithin-trans, join-left, join-right, join-least, same_span}
+use Rattle.tube_spec.proofs.Spans.{IsWithin-refl, IsWithin-trans, join-left, join-right, join-least, same_span}
 use Rattle.tube_spec.proofs.Families.{join_over-holds, join_over-least}
 use Rattle.tube_spec.proofs.Ticks.{Rises}
 use Rattle.ctc_core.specs.Given.{projection_at, no_projection}
 use Rattle.ctc_core.proofs.Fixing.{Fixes}
 use Rattle.ctc_delay.specs.Places.{place_count, place_first, place_last}
-use Rattle.ctc_delay.specs.Delays.{at_tick_from, delayed_hull, delay_to_at, delay_from_at}
+use Rattle.ctc_delay.specs.Delays.{at_tick_from, lies_in, delayed_hull, delay_to_at, delay_from_at}
 use Rattle.ctc_delay.specs.Ranges.{AreDelays}
 use Rattle.ctc_delay.specs.Hulls.{lies_in-holds, holds-lies_in}
 use Rattle.ctc_delay.specs.Windows.{IsOver, cells_of, signal_at, held_projection, held_projections}
@@ -59,10 +59,6 @@ join-is f a b order = record {
   least = λ t all. join_over-least f a (b - a) t (λ k h. all (a + k) (omega arith) (omega (arith, h, order)));
 }
 
-pub over-is : (s : Shape) (box : Option (List Span)) (signal first last : ℕ) (r : Span) → IsSome box → first ≤ last → IfSome box (λ xs. r ≡ over_ticks s xs signal first last) → IsOver (signal_at s box signal) first last r
-over-is s None signal first last r some order e = absurd (cc)
-over-is s (Some xs) signal first last r some order e = subst (IsOver (signal_at s (Some xs) signal) first last) (sym e) (join-is (signal_at s (Some xs) signal) first last order)
-
 -- the hull over some ticks and that over the ticks from the last of them on
 pub over-join : (f : ℕ → Span) (a m b : ℕ) (p q : Span) → a ≤ m → m ≤ b → IsOver f a m p → IsOver f m b q → IsOver f a b (join_of p q)
 over-join f a m b p q low high one two = record {
@@ -71,6 +67,42 @@ over-join f a m b p q low high one two = record {
     | inr l ↦ IsWithin-trans (f k) p (join_of p q) (one.holds k after l) (join-left p q)
   ];
   least = λ t all. join-least p q t (one.least t (λ k after before. all k after (omega (arith, before, high)))) (two.least t (λ k after before. all k (omega (arith, after, low)) before));
+}
+
+-- a fact of the cells of a box that is there
+pub of-cells : (box : Option (List Span)) (P : List Span → Type 0) → IsSome box → IfSome box P → P (cells_of box)
+of-cells None P some h = absurd (cc)
+of-cells (Some xs) P some h = h
+
+-- the hull over one tick
+pub over-one : (f : ℕ → Span) (a : ℕ) (p : Span) → p ≡ f a → IsOver f a a p
+over-one f a p e = record {
+  holds = λ k low high.
+      let same : a ≡ k = omega (arith, low, high) in
+      subst (λ (s : Span). IsWithin (f k) s) (sym (e ∙ ap f same)) (IsWithin-refl (f k));
+  least = λ t all. subst (λ (s : Span). IsWithin s t) (sym e) (all a (omega arith) (omega arith));
+}
+
+-- the hull up to a tick is that up to a later one, where the ticks between have what that tick has
+pub over-still : (f : ℕ → Span) (first from last : ℕ) (p : Span) → first ≤ from → from ≤ last → IsOver f first from p → ((k : ℕ) → from ≤ k → k ≤ last → f k ≡ f from) → IsOver f first last p
+over-still f first from last p low high over same = record {
+  holds = λ k after before. elim (cases_lt from k) [
+    | inl l ↦ subst (λ (s : Span). IsWithin s p) (sym (same k (omega (arith, l)) before)) (over.holds from low (omega arith))
+    | inr l ↦ over.holds k after l
+  ];
+  least = λ t all. over.least t (λ k after before. all k after (omega (arith, before, high)));
+}
+
+-- and with one tick more
+pub over-next : (f : ℕ → Span) (first from tick : ℕ) (p q : Span) → first ≤ from → from < tick → IsOver f first from p → ((k : ℕ) → from ≤ k → k < tick → f k ≡ f from) → q ≡ f tick → IsOver f first tick (join_of p q)
+over-next f first from tick p q low high over same e = record {
+  holds = λ k after before. elim (cases_lt k tick) [
+    | inl l ↦ IsWithin-trans (f k) p (join_of p q) ((over-still f first from (tick - 1) p low (omega (arith, high)) over (λ j a b. same j a (omega (arith, b, high)))).holds k after (omega (arith, l))) (join-left p q)
+    | inr l ↦
+        let last : tick ≡ k = omega (arith, l, before) in
+        subst (λ (s : Span). IsWithin s (join_of p q)) (e ∙ ap f last) (join-right p q)
+  ];
+  least = λ t all. join-least p q t (over.least t (λ k after before. all k after (omega (arith, before, high)))) (subst (λ (s : Span). IsWithin s t) (sym e) (all tick (omega (arith, low, high)) (omega arith)));
 }
 
 -- there is one hull over some ticks

@@ -1,16 +1,17 @@
 //! Places of a signal one after another, and the hulls over a window by which their cells are held, all found at once.
 
-ghost use Rattle.std.specs.Prelude.{◌≡◌, ◌+◌, ◌<◌, ◌≤◌, ℕ, [], ◌∷◌, IsSome, IfSome, length, pos, slice_index_or};
+ghost use Rattle.std.specs.Prelude.{◌≡◌, ◌+◌, ◌-◌, ◌<◌, ◌≤◌, ℕ, [], ◌∷◌, IsSome, IfSome, length, pos, slice_index_or};
 ghost use Rattle.tube_spec.specs.Span.{point};
 ghost use Rattle.tube_spec.specs.Grid.{last_tick};
+ghost use Rattle.tube_spec.specs.Tick.{tick_place};
 ghost use Rattle.tube_spec.specs.Projection.{Projection};
 ghost use Rattle.ctc_core.specs.Answers.{Revises, IsMonotoneBelow};
 ghost use Rattle.ctc_core.specs.Given.{narrowing_given};
 ghost use Rattle.ctc_delay.specs.Places.{place_count};
 ghost use Rattle.ctc_delay.specs.Windows.{window_first, window_last, WindowFits, signal_at, IsOver, IsOverWindow, HeldFits};
 
-use super::places::cell_at_place;
-use super::windows::{Window, over};
+use super::places::{cell_at_place, interval_at};
+use super::windows::{Window, carried_on};
 use ctc_core::{Formulas, Given, Revised, hold, start};
 use int_interval::Interval;
 use tube_store::{CellId, SignalId, Store};
@@ -75,61 +76,79 @@ fn shared(window: Window, store: &Store, first: u32, end: u32) -> u32
     count
 }
 
-// A hull over ticks up to a last one, from an earlier tick on.
-fn grown_back(store: &Store, signal: SignalId, begin: u32, at: u32, hull: Interval) -> Interval
-    requires signal { signal.0 < length store.now.shape.signals }
-    requires order { begin ≤ at }
-    requires within { at ≤ last_tick store.now.shape.grid }
-    requires filled { IsSome store.now.box }
-    ensures { (end : ℕ) → at ≤ end → IsOver (signal_at store.now.shape store.now.box signal.0) at end hull → IsOver (signal_at store.now.shape store.now.box signal.0) begin end result }
-{
-    if begin == at {
-        return hull;
-    }
-    over(store, signal, begin, at).hull(hull)
-}
-
-// A hull over ticks from a first one on, up to a later tick.
-fn grown_on(store: &Store, signal: SignalId, at: u32, last: u32, hull: Interval) -> Interval
-    requires signal { signal.0 < length store.now.shape.signals }
-    requires order { at ≤ last }
-    requires within { last ≤ last_tick store.now.shape.grid }
-    requires filled { IsSome store.now.box }
-    ensures { (first : ℕ) → first ≤ at → IsOver (signal_at store.now.shape store.now.box signal.0) first at hull → IsOver (signal_at store.now.shape store.now.box signal.0) first last result }
-{
-    if at == last {
-        return hull;
-    }
-    hull.hull(over(store, signal, at, last))
-}
-
-// Of each place the hull from the begin of its window to the end of the first one, from the last place back.
-fn hulls_to_end(window: Window, store: &Store, first: u32, count: u32, end: u32) -> [Interval; 256]
+// Of each place the hull from the begin of its window to the begin of the next one, of the last place to `end`; and the place of `end`.
+fn hulls_between(
+    window: Window,
+    store: &Store,
+    first: u32,
+    count: u32,
+    end: u32,
+) -> ([Interval; 256], u32)
     requires fits { WindowFits store.now.shape window first }
+    requires some { 0 < count }
     requires few { count ≤ 256 }
     requires places { first + count ≤ place_count store.now.shape.grid }
     requires within { end ≤ last_tick store.now.shape.grid }
     requires share { (k : ℕ) → k < count → window_first store.now.shape.grid window (first + k) ≤ end }
     requires filled { IsSome store.now.box }
-    ensures room { length result ≡ 256 }
-    ensures hulls { (k : ℕ) → k < count → IsOver (signal_at store.now.shape store.now.box window.signal.0) (window_first store.now.shape.grid window (first + k)) end (slice_index_or result k (point (pos 0))) }
+    ensures room { length result.0 ≡ 256 }
+    ensures between { (k : ℕ) → k + 1 < count → IsOver (signal_at store.now.shape store.now.box window.signal.0) (window_first store.now.shape.grid window (first + k)) (window_first store.now.shape.grid window (first + (k + 1))) (slice_index_or result.0 k (point (pos 0))) }
+    ensures last { IsOver (signal_at store.now.shape store.now.box window.signal.0) (window_first store.now.shape.grid window (first + (count - 1))) end (slice_index_or result.0 (count - 1) (point (pos 0))) }
+    ensures there { result.1 ≡ tick_place store.now.shape.grid end }
+    ensures among { result.1 < place_count store.now.shape.grid }
 {
     store.known();
-    let mut at = end;
-    let mut hull = over(store, window.signal, end, end);
-    let mut hulls = [hull; 256];
-    for j in (0..count).rev() {
-        let begin = window.begin(store, first, first + j);
-        hull = grown_back(store, window.signal, begin, at, hull);
+    let mut at = window.begin(store, first, first);
+    let mut place = store.grid().place_of(at);
+    let start = interval_at(store, window.signal, place);
+    let mut hulls = [start; 256];
+    for j in 0..count - 1 {
+        let begin = window.begin(store, first, first + (j + 1));
+        let here = interval_at(store, window.signal, place);
+        let (hull, next) = carried_on(store, window.signal, place, at, begin, here);
         hulls[j as usize] = hull;
+        place = next;
         at = begin;
     }
-    hulls
+    let there = interval_at(store, window.signal, place);
+    let (whole, last) = carried_on(store, window.signal, place, at, end, there);
+    hulls[count as usize - 1] = whole;
+    (hulls, last)
+}
+
+// Of each place the hull from the begin of its window to the end of the first one, from the last place back; and the place of that end.
+fn hulls_to_end(
+    window: Window,
+    store: &Store,
+    first: u32,
+    count: u32,
+    end: u32,
+) -> ([Interval; 256], u32)
+    requires fits { WindowFits store.now.shape window first }
+    requires some { 0 < count }
+    requires few { count ≤ 256 }
+    requires places { first + count ≤ place_count store.now.shape.grid }
+    requires within { end ≤ last_tick store.now.shape.grid }
+    requires share { (k : ℕ) → k < count → window_first store.now.shape.grid window (first + k) ≤ end }
+    requires filled { IsSome store.now.box }
+    ensures room { length result.0 ≡ 256 }
+    ensures hulls { (k : ℕ) → k < count → IsOver (signal_at store.now.shape store.now.box window.signal.0) (window_first store.now.shape.grid window (first + k)) end (slice_index_or result.0 k (point (pos 0))) }
+    ensures there { result.1 ≡ tick_place store.now.shape.grid end }
+    ensures among { result.1 < place_count store.now.shape.grid }
+{
+    store.known();
+    let (between, place) = hulls_between(window, store, first, count, end);
+    let mut hulls = between;
+    for j in (0..count - 1).rev() {
+        hulls[j as usize] = hulls[j as usize].hull(hulls[j as usize + 1]);
+    }
+    (hulls, place)
 }
 
 // The hulls of the windows of places one after another, of which each holds the end of the first one.
 fn hulls_over(window: Window, store: &Store, first: u32, count: u32, end: u32) -> [Interval; 256]
     requires fits { WindowFits store.now.shape window first }
+    requires some { 0 < count }
     requires few { count ≤ 256 }
     requires places { first + count ≤ place_count store.now.shape.grid }
     requires end { end ≡ window_last store.now.shape.grid window first }
@@ -140,13 +159,17 @@ fn hulls_over(window: Window, store: &Store, first: u32, count: u32, end: u32) -
     ensures hulls { (k : ℕ) → k < count → IsOverWindow store.now.shape store.now.box window (first + k) (slice_index_or result k (point (pos 0))) }
 {
     store.known();
-    let mut hulls = hulls_to_end(window, store, first, count, end);
+    let (to_end, spot) = hulls_to_end(window, store, first, count, end);
+    let mut hulls = to_end;
+    let mut place = spot;
     let mut at = end;
-    let mut hull = over(store, window.signal, end, end);
+    let mut hull = interval_at(store, window.signal, spot);
     for j in 0..count {
         let last = window.end(store, first, first + j);
-        hull = grown_on(store, window.signal, at, last, hull);
-        hulls[j as usize] = hulls[j as usize].hull(hull);
+        let (grown, next) = carried_on(store, window.signal, place, at, last, hull);
+        hulls[j as usize] = hulls[j as usize].hull(grown);
+        hull = grown;
+        place = next;
         at = last;
     }
     hulls

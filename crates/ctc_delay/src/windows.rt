@@ -3,10 +3,11 @@
 ghost use Rattle.std.specs.Prelude.{◌≡◌, ◌+◌, ◌-◌, ◌<◌, ◌≤◌, ℕ, IsTrue, IsSome, length, pos, slice_index, slice_index_or};
 ghost use Rattle.tube_spec.specs.Span.{point};
 ghost use Rattle.tube_spec.specs.Grid.{last_tick};
+ghost use Rattle.tube_spec.specs.Tick.{tick_place};
 ghost use Rattle.ctc_delay.specs.Places.{place_count, place_first, place_last};
 ghost use Rattle.ctc_delay.specs.Windows.{window_first, window_last, WindowFits, signal_at, IsOver, IsOverWindow};
 
-use super::places::{place_count, ticks_at};
+use super::places::{interval_at, place_count, place_end, place_on, ticks_at};
 use int_interval::Interval;
 use tube_store::{SignalId, Store};
 
@@ -24,15 +25,36 @@ pub struct Window {
     pub width: u32,
 }
 
-/// The hull of what a signal may be at the ticks from one to another.
-pub fn over(store: &Store, signal: SignalId, first: u32, last: u32) -> Interval
+/// A hull over ticks up to `at`, carried on up to a later tick, and the place of that one. It goes from place to place, from that of `at` on.
+pub fn carried_on(
+    store: &Store,
+    signal: SignalId,
+    spot: u32,
+    at: u32,
+    last: u32,
+    hull: Interval,
+) -> (Interval, u32)
     requires signal { signal.0 < length store.now.shape.signals }
-    requires order { first ≤ last }
+    requires order { at ≤ last }
     requires within { last ≤ last_tick store.now.shape.grid }
+    requires there { spot ≡ tick_place store.now.shape.grid at }
+    requires among { spot < place_count store.now.shape.grid }
     requires filled { IsSome store.now.box }
-    ensures { IsOver (signal_at store.now.shape store.now.box signal.0) first last result }
+    ensures hull { (first : ℕ) → first ≤ at → IsOver (signal_at store.now.shape store.now.box signal.0) first at hull → IsOver (signal_at store.now.shape store.now.box signal.0) first last result.0 }
+    ensures there { result.1 ≡ tick_place store.now.shape.grid last }
+    ensures among { result.1 < place_count store.now.shape.grid }
 {
-    store.over_ticks(signal, first, last)
+    store.known();
+    let mut whole = hull;
+    let mut place = spot;
+    let mut tick = place_end(store, place);
+    while tick <= last {
+        place = place_on(store, place, tick);
+        let here = interval_at(store, signal, place);
+        whole = whole.hull(here);
+        tick = place_end(store, place);
+    }
+    (whole, place)
 }
 
 impl Window {
