@@ -1,5 +1,5 @@
 -- The bound of settling, in the words of the records.
-use Rattle.std.proofs.Common.{◌≡◌, ℕ, zero, suc, ◌+◌, ◌*◌, ◌-◌, ◌≤◌, Bool, true, false, cond, Option, Some, None, List, [], ◌∷◌, ◌++◌, All, IsSome, arith, refl, sym, ap, ap₂, subst, ◌∙◌, flat_map, length, take, drop, replicate, sum_by, count_by}
+use Rattle.std.proofs.Common.{◌≡◌, ℕ, zero, suc, ◌+◌, ◌*◌, ◌-◌, ◌≤◌, Bool, true, false, cond, Option, Some, None, List, [], ◌∷◌, ◌++◌, All, IsSome, arith, refl, sym, ap, ap₂, subst, ◌∙◌, flat_map, length, take, drop, replicate, sum_by, count_by, zero-add}
 use Rattle.std.specs.Prelude.{IsFalse}
 use Rattle.std.proofs.lemmas.List.Elements.{All-head, All-tail}
 use Rattle.std.proofs.lemmas.List.Sums.{sum_by-cons, sum_by-append}
@@ -35,7 +35,7 @@ added-wait ws n h = omega (arith, sum_by-append (λ (b : Bool). cond b 1 0) ws (
 -- the contractors that read a cell are the constraints that do
 readers-by : (s : Shape) (cs : List (Option AnyCtc)) (cell : ℕ) → readers_of (of_place any_scope) s cs cell ≡ readers_of (λ (d : Constraint) (t : Shape). constraint_scope t d) s (flat_map stands_for cs) cell
 readers-by s [] cell = refl
-readers-by s (None ∷ cs) cell = sum_by-cons (λ (d : Option AnyCtc). cond (reads_by (of_place any_scope) s d cell) 1 0) None cs ∙ readers-by s cs cell
+readers-by s (None ∷ cs) cell = sum_by-cons (λ (d : Option AnyCtc). cond (reads_by (of_place any_scope) s d cell) 1 0) None cs ∙ (zero-add (readers_of (of_place any_scope) s cs cell) ∙ readers-by s cs cell)
 readers-by s (Some c ∷ cs) cell =
     sum_by-cons (λ (d : Option AnyCtc). cond (reads_by (of_place any_scope) s d cell) 1 0) (Some c) cs ∙ ap (λ (n : ℕ). cond (reads_by any_scope s c cell) 1 0 + n) (readers-by s cs cell)
     ∙ sym (sum_by-cons (λ (d : Constraint). cond (reads_by (λ (e : Constraint) (t : Shape). constraint_scope t e) s d cell) 1 0) (constraint_of c) (flat_map stands_for cs))

@@ -1,5 +1,5 @@
 -- Records and further records: shapes, starts, constraints, and how much room they take.
-use Rattle.std.proofs.Common.{◌≡◌, ℕ, zero, suc, ◌+◌, ◌-◌, ◌*◌, ◌<◌, ◌≤◌, List, [], ◌∷◌, ◌++◌, arith, refl, sym, ap, subst, ◌∙◌, length, take, get_or, flat_map, length-append, append-nil, append_assoc, map, ap₂, Option, Some, None, slice_index, ℤ, pos, max}
+use Rattle.std.proofs.Common.{◌≡◌, ℕ, zero, suc, ◌+◌, ◌-◌, ◌*◌, ◌<◌, ◌≤◌, List, [], ◌∷◌, ◌++◌, arith, refl, sym, ap, subst, ◌∙◌, length, take, get_or, flat_map, length-append, append-nil, append_assoc, map, ap₂, Option, Some, None, slice_index, ℤ, pos, max, zero-add}
 use Rattle.std.specs.Prelude.{is_some}
 use Rattle.std.proofs.Math.Nat.{mul-le-mul_left}
 use Rattle.std.proofs.lemmas.List.FromFn.{length-range_with_len}
@@ -250,6 +250,6 @@ scope-length s (ConstellOf p marks) =
 -- what a net's contractors read, by their constraints
 pub net-reads : (s : Shape) (cs : List (Option AnyCtc)) → entries_of (of_place any_scope) s cs ≡ reads_in s.grid (flat_map stands_for cs)
 net-reads s [] = refl
-net-reads s (None ∷ cs) = sum_by-cons (λ (x : Option AnyCtc). length (of_place any_scope x s)) None cs ∙ net-reads s cs
+net-reads s (None ∷ cs) = sum_by-cons (λ (x : Option AnyCtc). length (of_place any_scope x s)) None cs ∙ (zero-add (entries_of (of_place any_scope) s cs) ∙ net-reads s cs)
 net-reads s (Some c ∷ cs) =
     sum_by-cons (λ (x : Option AnyCtc). length (of_place any_scope x s)) (Some c) cs ∙ ap₂ (λ (m n : ℕ). m + n) (scope-length s (constraint_of c)) (net-reads s cs) ∙ sym (sum_by-cons (reads_of s.grid) (constraint_of c) (flat_map stands_for cs))
