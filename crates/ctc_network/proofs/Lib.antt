@@ -4,6 +4,7 @@ pub mod Firing
 pub mod Holes
 pub mod Keeping
 pub mod Replaying
+pub mod Resettling
 pub mod Runs
 pub mod Schedules
 pub mod Waking

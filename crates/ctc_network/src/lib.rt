@@ -18,6 +18,7 @@ mod laws;
 mod net;
 mod noting;
 mod places;
+mod turns;
 
 pub use answers::{AddFault, CtcId, Order, Settled};
 pub use laws::{event_law, schedule_law, section_law};
