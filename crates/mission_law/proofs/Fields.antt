@@ -67,7 +67,7 @@ bounds-right lo hi = by (are_bounds lo hi) refl
 
 range-right : (r : Record) (i : ℕ) → IfOk (range_at r i) IsRange
 unfolding range_at
-range-right r i = goes IsRange (number_at r i) _ (λ lo e. goes IsRange (number_at r (_ )) _ (λ hi f. bounds-right lo hi))
+range-right r i = goes IsRange (number_at r i) _ (λ lo e. goes IsRange (number_at r (_)) _ (λ hi f. bounds-right lo hi))
 
 abbrev pub AreRadiiPair : ℤ × ℤ → Type 0
 AreRadiiPair p = AreRadii p.0 p.1
@@ -81,7 +81,7 @@ radii-of near far e =
 radii-right : (r : Record) (i : ℕ) → IfOk (radii_at r i) AreRadiiPair
 unfolding radii_at
 radii-right r i =
-    goes AreRadiiPair (number_at r i) _ (λ near e. goes AreRadiiPair (number_at r (_ )) _ (λ far f.
+    goes AreRadiiPair (number_at r i) _ (λ near e. goes AreRadiiPair (number_at r (_)) _ (λ far f.
     knows (λ u. are_radii near far ≡ true) AreRadiiPair (unless (are_radii near far) cause.Range) _ (tested (are_radii near far) cause.Range) (λ u order. radii-of near far order)))
 
 abbrev pub IsCount : ℕ → Type 0
