@@ -1,14 +1,13 @@
 -- What the fields of a record are, where no cause is found in them.
-use Rattle.std.proofs.Common.{◌≡◌, ℕ, ◌<◌, ◌≤◌, ◌⊎◌, inl, inr, Bool, true, false, ◌&&◌, cond, List, [], ◌∷◌, Option, Some, None, Result, Ok, Err, ℤ, pos, negsuc, ◌≤ℤ◌, int_le, arith, refl, sym, ap, ◌∙◌, subst, length, nat_le, bytes_eq, ◌==◌}
+use Rattle.std.proofs.Common.{◌≡◌, ℕ, ◌≤◌, Bool, true, false, ◌&&◌, cond, List, Option, Some, None, Result, Ok, Err, ℤ, pos, negsuc, ◌≤ℤ◌, int_le, arith, refl, length, nat_le, bytes_eq, ◌==◌}
 use Rattle.std.specs.Prelude.{IfOk, codes, neg_ℤ}
 use Rattle.std.proofs.lemmas.Bool.Decides.{nat_tests}
 use Rattle.std.proofs.lemmas.Int.{ints}
 use Rattle.csv_rows.specs.Records.{Record}
 use Rattle.log_spelling.specs.Names.{is_name}
-use Rattle.log_spelling.specs.Numbers.{number_of}
 use Rattle.log_spelling.specs.declared.reference.Part.{Part}
 use Rattle.tube_spec.specs.Span.{Span}
-use Rattle.log_fields.specs.Fields.{AreRadii, IsRange, IsRadius, are_bounds, are_radii, beacon_at, count_of, field, is_radius, name_at, number_at, radii_at, range_at, range_of, reference_at, tick_of, version_at, version_of}
+use Rattle.log_fields.specs.Fields.{AreRadii, IsRange, are_bounds, are_radii, beacon_at, count_of, field, is_radius, name_at, number_at, radii_at, range_at, range_of, reference_at, tick_of, version_at}
 use Rattle.log_fields.specs.Kinds.{at_fields, beacon_fields, bound_fields, declared_fields, mission_fields, ping_fields, range3_fields, range_fields, revisit_fields}
 use Rattle.log_fields.specs.Steps.{◌>>=◌, found_or, unless}
 use Rattle.log_fields.specs.declared.fault.Cause.{Cause}

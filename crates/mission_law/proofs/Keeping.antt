@@ -1,13 +1,13 @@
 -- What is true of a mission that grows record by record, and stays true.
-use Rattle.std.proofs.Common.{◌≡◌, ℕ, ◌+◌, ◌-◌, ◌≤◌, Bool, true, false, ◌||◌, ◌&&◌, List, [], ◌∷◌, ◌++◌, Ok, length, length-append, refl, sym, ap, ◌∙◌, subst, arith, slice_index}
+use Rattle.std.proofs.Common.{◌≡◌, ℕ, ◌-◌, ◌≤◌, Bool, true, false, ◌||◌, ◌&&◌, List, [], ◌∷◌, ◌++◌, Ok, length, length-append, refl, sym, ap, ◌∙◌, subst, arith, slice_index}
 use Rattle.std.specs.Int.{div_ceil}
 use Rattle.std.specs.List.{list_all}
-use Rattle.tube_spec.specs.Grid.{IsGrid, last_tick}
+use Rattle.tube_spec.specs.Grid.{last_tick}
 use Rattle.slice_gates.specs.Cuts.{uniform_cuts}
 use Rattle.slice_gates.proofs.Uniform.{IsGrid-uniform, length-uniform, slice_index-uniform_last}
 use Rattle.mission_items.specs.Cuts.{with_cut, with_tick}
-use Rattle.mission_items.specs.Made.{has_head, is_head, signals_in, variables_in}
-use Rattle.mission_items.specs.Room.{cells_of, feet_of}
+use Rattle.mission_items.specs.Made.{has_head, is_head}
+use Rattle.mission_items.specs.Room.{cells_of}
 use Rattle.mission_items.specs.Valid.{AreFew, AreRight, IsClock, IsInPlace, IsRight, may_precede_cut}
 use Rattle.mission_items.specs.declared.item.Item.{Item}
 use Rattle.mission_items.specs.declared.item.Item.TheVariants as item

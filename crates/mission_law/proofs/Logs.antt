@@ -1,5 +1,5 @@
 -- A log that is accepted says a mission.
-use Rattle.std.proofs.Common.{◌≡◌, ℕ, Bool, true, false, ◌||◌, ◌&&◌, cond, List, [], ◌∷◌, Result, Ok, Err, length, refl, sym, ap, ◌∙◌, subst, nat_lt}
+use Rattle.std.proofs.Common.{◌≡◌, ℕ, Bool, true, false, ◌||◌, ◌&&◌, cond, List, [], ◌∷◌, Result, Ok, Err, length, refl, ap, ◌∙◌, subst, nat_lt}
 use Rattle.std.specs.Prelude.{IfOk, not}
 use Rattle.std.specs.List.{list_all}
 use Rattle.csv_rows.specs.Records.{Record, records_of}

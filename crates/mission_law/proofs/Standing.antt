@@ -1,6 +1,6 @@
 -- What the names of a record stand for, where no cause is found in them.
-use Rattle.std.proofs.Common.{◌≡◌, ◌≢◌, ℕ, ◌<◌, ◌≤◌, Bool, true, false, List, [], ◌∷◌, Option, Some, None, Result, Ok, Err, arith, refl, sym, ap, ◌∙◌, subst, length, map}
-use Rattle.std.specs.Prelude.{All, IfOk, IfSome, not, is_some, ◌==◌, nat_le}
+use Rattle.std.proofs.Common.{◌≡◌, ℕ, ◌<◌, true, List, [], ◌∷◌, Option, Some, None, Result, Ok, Err, arith, refl, ap, subst, length}
+use Rattle.std.specs.Prelude.{All, IfOk, IfSome, not, is_some, ◌==◌}
 use Rattle.std.proofs.lemmas.Bool.Decides.{nat_tests}
 use Rattle.std.proofs.lemmas.List.Elements.{All-cons, All-nil}
 use Rattle.tube_store.specs.declared.SignalId.{SignalId}
@@ -16,7 +16,7 @@ use Rattle.mission_items.specs.declared.decl.Decl.{Decl}
 use Rattle.mission_items.specs.declared.item.Item.{Item}
 use Rattle.mission_items.proofs.Standing.{beacon-found, signal-found}
 use Rattle.mission_log.specs.Found.{beacon_in, declaration_in, declared_part, each, mark_declared, mark_in, new_name, signal_in, variable_in, variable_part}
-use Rattle.mission_law.proofs.Fields.{goes, knows, some_of, tested}
+use Rattle.mission_law.proofs.Fields.{goes, knows}
 
 -- ---- one name
 

@@ -1,5 +1,5 @@
 -- Each kind of record keeps a mission sound.
-use Rattle.std.proofs.Common.{◌≡◌, ◌≢◌, ℕ, ◌+◌, ◌-◌, ◌<◌, ◌≤◌, Bool, true, false, cond, List, [], ◌∷◌, ◌++◌, Option, Some, None, Result, Ok, Err, ℤ, pos, arith, refl, sym, ap, ◌∙◌, length}
+use Rattle.std.proofs.Common.{◌≡◌, ℕ, ◌-◌, ◌<◌, ◌≤◌, Bool, true, false, cond, List, [], ◌∷◌, Option, Some, None, Result, Ok, ℤ, arith, refl, ◌∙◌, length}
 use Rattle.std.specs.Prelude.{IfOk, IfSome, not, nat_le, nat_lt, ◌==◌, take, drop}
 use Rattle.std.specs.List.{list_all}
 use Rattle.std.proofs.lemmas.Bool.Decides.{nat_tests}
@@ -25,10 +25,10 @@ use Rattle.mission_items.specs.Valid.{IsInPlace, IsRight, is_variable, may_prece
 use Rattle.mission_items.specs.declared.item.Item.{Item}
 use Rattle.mission_items.specs.declared.item.Item.TheVariants as item
 use Rattle.mission_items.specs.declared.mission.Mission.{Mission}
-use Rattle.log_draft.specs.Growing.{added, started, with_item}
+use Rattle.log_draft.specs.Growing.{added, started}
 use Rattle.log_draft.specs.Room.{is_narrow, room_for}
 use Rattle.mission_log.specs.Found.{declaration_in, declarations_in, formula_in, has_values, leaves_for, mark_declared, mark_in, new_name, references_of, signal_in, variable_in, variables_for}
-use Rattle.mission_log.specs.Log.{at_step, beacon_step, bound_step, constell_step, cut_step, delay_step, deriv_step, each_step, eval_step, in_mission, is_note_record, kind_step, mission_step, ping_said, ping_step, range3_step, range_step, record_step, revisit_step, settle_step, signal_step, single_step, step, variable_step}
+use Rattle.mission_log.specs.Log.{at_step, beacon_step, bound_step, constell_step, cut_step, delay_step, deriv_step, each_step, eval_step, is_note_record, kind_step, mission_step, ping_said, ping_step, range3_step, range_step, record_step, revisit_step, settle_step, signal_step, single_step, step, variable_step}
 use Rattle.mission_log.specs.Room.{has_mark}
 use Rattle.mission_log.proofs.Adding.{inside, record_by}
 use Rattle.mission_log.proofs.LeavesStand.{formula-read, formula-right}
