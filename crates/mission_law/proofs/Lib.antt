@@ -1,0 +1,6 @@
+mod Grids
+mod Fields
+mod Keeping
+mod Standing
+mod Steps
+mod Logs
