@@ -1,3 +1,4 @@
+pub mod Asked
 pub mod Plane
 pub mod Judging
 pub mod Levels

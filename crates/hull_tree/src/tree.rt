@@ -1,10 +1,11 @@
 //! The plane of pairs of ticks of a query, and the judgement of its boxes.
 
-ghost use Rattle.std.specs.Prelude.{◌≡◌, ℕ, ◌+◌, ◌<◌, ◌≤◌, length, pos, ◌≤ℤ◌, IsSome, IfSome, IfOk};
-ghost use Rattle.tube_spec.specs.Limits.{greatest_radius, most_ticks};
+ghost use Rattle.std.specs.Prelude.{◌≡◌, ◌+◌, ◌<◌, ◌≤◌, length, IsSome, IfSome, IfOk};
+ghost use Rattle.tube_spec.specs.Limits.{most_ticks};
 ghost use Rattle.tube_spec.specs.Grid.{last_tick};
 ghost use Rattle.tube_spec.specs.Tick.{at_tick};
 ghost use Rattle.tube_spec.specs.Box.{AreBounded, IsBox};
+ghost use Rattle.hull_tree.specs.Asked.{IsAsked};
 ghost use Rattle.hull_tree.specs.Plane.{Plane, IsPlane, plane_of, tube_of, is_possible};
 ghost use Rattle.hull_tree.specs.Judging.{TickBox, judged, Says};
 
@@ -42,7 +43,8 @@ pub struct HullTree {
 }
 
 impl Model for HullTree {
-    ghost use Rattle.hull_tree.specs.Plane.{Plane, IsPlane};
+    ghost use Rattle.hull_tree.specs.Asked.{IsAsked};
+ghost use Rattle.hull_tree.specs.Plane.{Plane, IsPlane};
 
     ghost Value = { Plane };
 
@@ -55,10 +57,7 @@ impl HullTree {
     /// The trees of a query's two signals, as a store has them. All memory is taken here.
     pub fn new(alloc: Global, store: &Store, q: &Query) -> Result<HullTree, NoMemory>
         requires filled { IsSome store.now.box }
-        requires x { q.now.x.0 < length store.now.shape.signals }
-        requires y { q.now.y.0 < length store.now.shape.signals }
-        requires radius { pos 0 ≤ℤ q.now.radius }
-        requires small { q.now.radius ≤ℤ pos greatest_radius }
+        requires asked { IsAsked (length store.now.shape.signals) q.now }
         ensures { IfOk result (λ tree. IfSome store.now.box (λ xs. tree ≡ plane_of store.now.shape xs q.now)) }
     {
         let x = range_tree(alloc, store, q.x)?;

@@ -5,6 +5,7 @@ ghost use Rattle.tube_spec.specs.Limits.{greatest_radius};
 ghost use Rattle.tube_spec.specs.Span.{IsBounded, sub_of};
 ghost use Rattle.tube_spec.specs.Grid.{last_tick};
 ghost use Rattle.tube_spec.specs.Tick.{at_tick};
+ghost use Rattle.hull_tree.specs.Asked.{HasSignals};
 ghost use Rattle.loop_degree.specs.Pairs.{IsRising};
 ghost use Rattle.loop_prover.specs.First.{first_label, label_of, LacksLabel, AreLabels};
 
@@ -56,8 +57,7 @@ fn first_label(dx: Interval, dy: Interval, d1: i64, d2: i64) -> Option<Label>
 /// The store is not to be empty and to have both signals, and `a` and `b` are to be at most its last tick.
 pub fn label(store: &Store, q: &Query, a: u32, b: u32, d1: i64, d2: i64) -> Option<Label>
     requires filled { IsSome store.now.box }
-    requires x { q.now.x.0 < length store.now.shape.signals }
-    requires y { q.now.y.0 < length store.now.shape.signals }
+    requires signals { HasSignals (length store.now.shape.signals) q.now }
     requires a { a ≤ last_tick store.now.shape.grid }
     requires b { b ≤ last_tick store.now.shape.grid }
     requires d1_least { pos 1 ≤ℤ d1 }
@@ -85,8 +85,7 @@ pub fn labels_of(
     requires rising { IsRising cells.now }
     requires corners { All (λ c. (c.0 < last_tick store.now.shape.grid) × (c.1 < last_tick store.now.shape.grid)) cells.now }
     requires filled { IsSome store.now.box }
-    requires x { q.now.x.0 < length store.now.shape.signals }
-    requires y { q.now.y.0 < length store.now.shape.signals }
+    requires signals { HasSignals (length store.now.shape.signals) q.now }
     requires d1_least { pos 1 ≤ℤ d1 }
     requires d1_most { d1 ≤ℤ pos greatest_radius }
     requires d2_least { pos 1 ≤ℤ d2 }

@@ -1,8 +1,9 @@
 -- Sets of possible pairs, and the sure pairs in them.
-use Rattle.std.specs.Prelude.{◌≡◌, ℕ, ◌+◌, ◌<◌, ◌≤◌, true, false, List, length, IsTrue, ℤ, pos, ◌≤ℤ◌}
-use Rattle.tube_spec.specs.Limits.{greatest_radius, most_ticks}
+use Rattle.std.specs.Prelude.{◌≡◌, ℕ, ◌+◌, ◌<◌, ◌≤◌, true, false, List, length, IsTrue, ℤ}
+use Rattle.tube_spec.specs.Limits.{most_ticks}
 use Rattle.tube_spec.specs.Span.{Span, natural}
 use Rattle.tube_spec.specs.Box.{AreBounded}
+use Rattle.hull_tree.specs.Asked.{IsRadius}
 use Rattle.hull_tree.specs.Plane.{Plane, is_valid, is_possible, is_sure}
 use Rattle.hull_tree.specs.Revisits.{IsRevisit}
 use Rattle.tube_names.specs.declared.queries.Query.{Query}
@@ -45,8 +46,7 @@ pub record IsTracked (xs ys : List Span) (q : Query) : Type 0 where
   pub short : length xs ≤ most_ticks + 1
   pub x : AreBounded xs
   pub y : AreBounded ys
-  pub radius : pos 0 ≤ℤ q.radius
-  pub small : q.radius ≤ℤ pos greatest_radius
+  pub radius : IsRadius q.radius
 
 -- the pairs of a tick with a range of ticks are valid; none of them is sure; or this is the first tick that makes a sure one
 abbrev pub AreValid : Plane → ℕ → ℕ → ℕ → Type 0

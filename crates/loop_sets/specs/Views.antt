@@ -1,9 +1,10 @@
 -- The labels of corners in a store.
-use Rattle.std.specs.Prelude.{ℕ, ◌<◌, cond, Option, Some, None, IsSome, List, length, ℤ, pos, ◌-ℤ◌, ◌≤ℤ◌}
+use Rattle.std.specs.Prelude.{ℕ, cond, Option, Some, None, IsSome, List, length, ℤ, pos, ◌-ℤ◌, ◌≤ℤ◌}
 use Rattle.std.specs.Ordering.{int_eq}
 use Rattle.tube_spec.specs.Limits.{greatest_radius}
 use Rattle.tube_spec.specs.Span.{Span, natural}
 use Rattle.tube_names.specs.Nearness.{is_near}
+use Rattle.hull_tree.specs.Asked.{HasSignals}
 use Rattle.tube_spec.specs.Shape.{Shape}
 use Rattle.tube_spec.specs.Tick.{at_tick}
 use Rattle.tube_names.specs.declared.queries.Query.{Query}
@@ -22,8 +23,7 @@ label_by view = label_in view.store.now.shape view.store.now.box view.query.now 
 -- a store that is not empty, a query of its signals, and step bounds
 pub record IsView (view : View) : Type 0 where
   pub filled : IsSome view.store.now.box
-  pub x : view.query.now.x.0 < length view.store.now.shape.signals
-  pub y : view.query.now.y.0 < length view.store.now.shape.signals
+  pub signals : HasSignals (length view.store.now.shape.signals) view.query.now
   pub d1_least : pos 1 ≤ℤ view.d1
   pub d1_most : view.d1 ≤ℤ pos greatest_radius
   pub d2_least : pos 1 ≤ℤ view.d2

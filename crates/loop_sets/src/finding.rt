@@ -3,6 +3,7 @@
 ghost use Rattle.std.specs.Prelude.{◌≡◌, ◌<◌, ◌≤◌, ◌≤ℤ◌, ◌-ℤ◌, pos, All, IsSome, IfSome, IfOk, length, map};
 ghost use Rattle.tube_spec.specs.Limits.{greatest_radius, most_runs};
 ghost use Rattle.tube_spec.specs.Span.{natural};
+ghost use Rattle.hull_tree.specs.Asked.{IsRadius, IsAsked};
 ghost use Rattle.hull_tree.specs.Plane.{plane_of};
 ghost use Rattle.tube_names.specs.Nearness.{is_near};
 ghost use Rattle.tplane_paver.specs.Runs.{AreInOrder};
@@ -47,12 +48,9 @@ pub fn prove(
     rates_y: &[SignalId],
 ) -> Result<Finding, NoMemory>
     requires filled { IsSome store.now.box }
-    requires x { q.now.x.0 < length store.now.shape.signals }
-    requires y { q.now.y.0 < length store.now.shape.signals }
+    requires asked { IsAsked (length store.now.shape.signals) q.now }
     requires rates_x { All (λ r. r.0 < length store.now.shape.signals) rates_x.now }
     requires rates_y { All (λ r. r.0 < length store.now.shape.signals) rates_y.now }
-    requires radius { pos 0 ≤ℤ q.now.radius }
-    requires small { q.now.radius ≤ℤ pos greatest_radius }
     requires set { IfSome store.now.box (λ xs. IsComponent (plane_of store.now.shape xs q.now) set.now) }
     ensures { IfOk result (λ found. IfSome store.now.box (λ xs. IsFinding store.now.shape xs q.now (map (λ r. r.0) rates_x.now) (map (λ r. r.0) rates_y.now) set.now found)) }
 {
@@ -80,12 +78,9 @@ fn degree_of(
     requires order { AreInOrder set.now }
     requires few { length set.now ≤ most_runs }
     requires filled { IsSome store.now.box }
-    requires x { q.now.x.0 < length store.now.shape.signals }
-    requires y { q.now.y.0 < length store.now.shape.signals }
+    requires asked { IsAsked (length store.now.shape.signals) q.now }
     requires rates_x { All (λ r. r.0 < length store.now.shape.signals) rates_x.now }
     requires rates_y { All (λ r. r.0 < length store.now.shape.signals) rates_y.now }
-    requires radius { pos 0 ≤ℤ q.now.radius }
-    requires small { q.now.radius ≤ℤ pos greatest_radius }
     ensures { IfOk result (λ degree. IfSome store.now.box (λ xs. IsTested store.now.shape xs q.now (map (λ r. r.0) rates_x.now) (map (λ r. r.0) rates_y.now) set.now degree)) }
 {
     store.grid().known();
@@ -106,8 +101,7 @@ fn degree_of(
 
 /// The degree where it is not 0 and the step bounds are near enough.
 fn tested(q: &Query, d1: i64, d2: i64, turns: Option<i64>) -> Option<i64>
-    requires radius { pos 0 ≤ℤ q.now.radius }
-    requires small { q.now.radius ≤ℤ pos greatest_radius }
+    requires radius { IsRadius q.now.radius }
     requires d1_least { pos 1 ≤ℤ d1 }
     requires d1_most { d1 ≤ℤ pos greatest_radius }
     requires d2_least { pos 1 ≤ℤ d2 }
@@ -128,8 +122,7 @@ fn tested(q: &Query, d1: i64, d2: i64, turns: Option<i64>) -> Option<i64>
 
 /// Whether both step bounds less one are near.
 fn is_reached(q: &Query, d1: i64, d2: i64) -> bool
-    requires radius { pos 0 ≤ℤ q.now.radius }
-    requires small { q.now.radius ≤ℤ pos greatest_radius }
+    requires radius { IsRadius q.now.radius }
     requires d1_least { pos 1 ≤ℤ d1 }
     requires d1_most { d1 ≤ℤ pos greatest_radius }
     requires d2_least { pos 1 ≤ℤ d2 }

@@ -1,9 +1,10 @@
 //! The least sure pair of a set.
 
-ghost use Rattle.std.specs.Prelude.{◌≡◌, ◌≤◌, ◌<◌, ◌≤ℤ◌, pos, ℕ, true, MatchOption, length};
+ghost use Rattle.std.specs.Prelude.{◌≡◌, ◌≤◌, ◌<◌, ℕ, true, MatchOption, length};
 ghost use Rattle.std.specs.Bool.{OnFalse};
 ghost use Rattle.tube_spec.specs.Limits.{greatest_radius};
 ghost use Rattle.tube_spec.specs.Span.{natural};
+ghost use Rattle.hull_tree.specs.Asked.{IsRadius};
 ghost use Rattle.hull_tree.specs.Plane.{is_valid, is_sure};
 ghost use Rattle.tube_names.specs.Nearness.{is_near};
 ghost use Rattle.tplane_paver.specs.Runs.{AreInOrder, InRuns};
@@ -15,8 +16,7 @@ use tplane_paver::Run;
 
 /// Whether two places are near by a query.
 fn is_close(q: &Query, dx: u64, dy: u64) -> bool
-    requires radius { pos 0 ≤ℤ q.now.radius }
-    requires small { q.now.radius ≤ℤ pos greatest_radius }
+    requires radius { IsRadius q.now.radius }
     requires dx { dx ≤ greatest_radius }
     requires dy { dy ≤ greatest_radius }
     ensures { result ≡ is_near q.now.norm (natural q.now.radius) dx dy }

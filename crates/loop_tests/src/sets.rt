@@ -1,5 +1,6 @@
-ghost use Rattle.std.specs.Prelude.{◌≡◌, ◌<◌, ◌≤ℤ◌, ◌↔◌, pos, All, IsSome, IsTrue, length};
+ghost use Rattle.std.specs.Prelude.{◌≡◌, ◌<◌, ◌↔◌, All, IsSome, IsTrue, length};
 ghost use Rattle.tube_spec.specs.Span.{IsBounded};
+ghost use Rattle.hull_tree.specs.Asked.{IsAsked};
 
 use hull_tree::{HullTree, Norm, Query};
 use int_interval::Interval;
@@ -82,12 +83,9 @@ fn findings<L: Ledger>(
     requires parts { blank.parts ≡ L.parts }
     requires some { 0 < L.parts }
     requires filled { IsSome store.now.box }
-    requires x { q.now.x.0 < length store.now.shape.signals }
-    requires y { q.now.y.0 < length store.now.shape.signals }
+    requires asked { IsAsked (length store.now.shape.signals) q.now }
     requires rates_x { All (λ r. r.0 < length store.now.shape.signals) rates_x.now }
     requires rates_y { All (λ r. r.0 < length store.now.shape.signals) rates_y.now }
-    requires radius { pos 0 ≤ℤ q.now.radius }
-    requires small { q.now.radius ≤ℤ pos 2000000000 }
 {
     let mut steps = Steps::<L>::new(blank);
     let tree = HullTree::new(alloc, store, q)?;

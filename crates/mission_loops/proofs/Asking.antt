@@ -1,12 +1,13 @@
 -- What right records ask and what rates they give, and what they say of these.
-use Rattle.std.proofs.Common.{◌≡◌, ℕ, ◌+◌, ◌<◌, ◌≤◌, ◌==◌, Bool, true, false, List, [], ◌∷◌, ◌++◌, All, ℤ, pos, arith, refl, sym, subst, length, take, append_assoc, flat_map}
-use Rattle.std.specs.Prelude.{if◌then◌else◌, ◌+ℤ◌, ◌≤ℤ◌}
+use Rattle.std.proofs.Common.{◌≡◌, ℕ, ◌+◌, ◌<◌, ◌≤◌, ◌==◌, Bool, true, false, List, [], ◌∷◌, ◌++◌, All, ℤ, arith, refl, sym, subst, length, take, append_assoc, flat_map}
+use Rattle.std.specs.Prelude.{if◌then◌else◌, ◌+ℤ◌}
 use Rattle.std.specs.List.{Contains}
 use Rattle.std.proofs.lemmas.Bool.{eqb-true}
 use Rattle.std.proofs.lemmas.List.Elements.{All-nil, All-append, All-contains}
 use Rattle.tube_spec.specs.Shape.{Shape}
 use Rattle.tube_spec.specs.Assignment.{Assignment, value_at}
 use Rattle.tube_names.specs.declared.queries.Query.{Query}
+use Rattle.hull_tree.specs.Asked.{IsAsked}
 use Rattle.mission_items.specs.declared.item.Item.{Item}
 use Rattle.mission_items.specs.declared.item.Item.TheVariants as item
 use Rattle.mission_items.specs.declared.mission.Mission.{Mission}
@@ -29,16 +30,9 @@ all-given P f version end n one before (r ∷ items) right few =
 
 -- ---- queries
 
--- the signals of a query are among the first n, and its radius is within bounds
-pub record IsAsked (n : ℕ) (q : Query) : Type 0 where
-  pub x : q.x.0 < n
-  pub y : q.y.0 < n
-  pub radius : pos 0 ≤ℤ q.radius
-  pub small : q.radius ≤ℤ pos 2000000000
-
 one-asked : (version end n : ℕ) (before : List Item) (r : Item) → signals_in before ≤ n → IsRight version end before r → All (IsAsked n) (query_of r)
 one-asked version end n before (item.Revisit q) few right =
-    All-one (IsAsked n) q (record { x = omega (arith, few, right.signals.0); y = omega (arith, few, right.signals.1); radius = right.radius.1; small = right.radius.2 })
+    All-one (IsAsked n) q (record { signals = record { x = omega (arith, few, right.signals.0); y = omega (arith, few, right.signals.1) }; radius = record { least = right.radius.1; most = right.radius.2 } })
 one-asked version end n before r few right = All-nil (IsAsked n)
 
 -- ---- rates

@@ -26,7 +26,8 @@ use Rattle.mission_net.proofs.Shapes.{shape-grid}
 use Rattle.mission_loops.specs.Queries.{queries, rates_of}
 use Rattle.mission_loops.specs.Findings.{sets_in, AreSetsOf, HoldRevisits, IsProved, IsTold, IsToldOver}
 use Rattle.mission_loops.specs.Laws.{LoopsLaw}
-use Rattle.mission_loops.proofs.Asking.{asked, rates-below, rates-gain, IsAsked}
+use Rattle.hull_tree.specs.Asked.{IsAsked}
+use Rattle.mission_loops.proofs.Asking.{asked, rates-below, rates-gain}
 use Rattle.mission_loops.proofs.Telling.{all-components, all-unmap, in-some-set}
 
 -- no assignment satisfies records whose box is empty
@@ -51,7 +52,7 @@ module _ (grid : List ℕ) (items : List Item) (q : Query) (is : IsGrid grid) (r
   revisit-possible : (w : Assignment) → SatisfiesAll grid w items → (a b : ℕ) → IsRevisit q (last_tick grid) (value_at w q.x.0) (value_at w q.y.0) a b
       → is_possible (plane_of (shape_by grid items) xs q) a b ≡ true
   revisit-possible w says a b r =
-      possible-revisit (shape_by grid items) w (hull_box grid (owners items) w) xs q same-grid (hull-of w) (encloses w says) right.x right.y a b
+      possible-revisit (shape_by grid items) w (hull_box grid (owners items) w) xs q same-grid (hull-of w) (encloses w says) right.signals.x right.signals.y a b
       (subst (λ (end : ℕ). IsRevisit q end (value_at w q.x.0) (value_at w q.y.0) a b) (sym same-end) r)
 
   pub holds-all : (sets : List Found) → AreSetsOf items (shape_by grid items) xs q sets → HoldRevisits grid items q sets
@@ -73,7 +74,7 @@ module _ (grid : List ℕ) (items : List Item) (q : Query) (is : IsGrid grid) (r
       let component = all-unmap (IsComponent (plane_of (shape_by grid items) xs q)) (λ (g : Found). g.set) sets
       (all-components (plane_of (shape_by grid items) xs q) are.runs (sets_in sets) are.possible are.components) k d l in
       subst (λ (end : ℕ). HasRevisitIn q end (value_at w q.x.0) (value_at w q.y.0) f.set) same-end
-      (finding-law (shape_by grid items) w (hull_box grid (owners items) w) xs q (rates_of items q.x.0) (rates_of items q.y.0) same-grid (hull-of w) (encloses w says) right.x right.y
+      (finding-law (shape_by grid items) w (hull_box grid (owners items) w) xs q (rates_of items q.x.0) (rates_of items q.y.0) same-grid (hull-of w) (encloses w says) right.signals.x right.signals.y
       (are-rates w says q.x.0) (are-rates w says q.y.0) f.set f.finding component (are.findings k d l) some)
 
 pub loops-law : LoopsLaw

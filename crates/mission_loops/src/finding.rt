@@ -1,7 +1,8 @@
 //! The sets of one query.
 
-ghost use Rattle.std.specs.Prelude.{◌≡◌, ◌<◌, ◌≤◌, ◌≤ℤ◌, ◌∷◌, [], ℕ, pos, All, IsSome, IfSome, IfOk, length, map, take};
+ghost use Rattle.std.specs.Prelude.{◌≡◌, ◌<◌, ◌≤◌, ◌∷◌, [], ℕ, All, IsSome, IfSome, IfOk, length, map, take};
 ghost use Rattle.std.specs.List.{Contains};
+ghost use Rattle.hull_tree.specs.Asked.{IsAsked};
 ghost use Rattle.hull_tree.specs.Plane.{plane_of};
 ghost use Rattle.loop_sets.specs.Sets.{IsComponent};
 ghost use Rattle.mission_items.specs.Valid.{IsMission};
@@ -9,7 +10,6 @@ ghost use Rattle.mission_net.specs.Records.{shape_by, Encloses};
 ghost use Rattle.mission_loops.specs.Queries.{queries, rates_of};
 ghost use Rattle.mission_loops.specs.Cost.{TakesAtMost};
 ghost use Rattle.mission_loops.specs.Findings.{sets_in, ArePaved, AreFound, IsToldOver, IsTold};
-ghost use Rattle.tube_spec.specs.Limits.{greatest_radius};
 
 use crate::records::{first_items, rates_of};
 use crate::sets::FoundSets;
@@ -32,10 +32,7 @@ fn paved<L: Ledger>(
     steps: &mut Steps<L>,
 ) -> Result<Option<Runs>, NoMemory>
     requires filled { IsSome store.now.box }
-    requires x { q.now.x.0 < length store.now.shape.signals }
-    requires y { q.now.y.0 < length store.now.shape.signals }
-    requires radius { pos 0 ≤ℤ q.now.radius }
-    requires small { q.now.radius ≤ℤ pos greatest_radius }
+    requires asked { IsAsked (length store.now.shape.signals) q.now }
     ensures paved { IfOk result (λ paved. IfSome store.now.box (λ xs. ArePaved (plane_of store.now.shape xs q.now) paved)) }
     ensures steps { TakesAtMost store.now.shape store.now.box (q.now ∷ []) steps.old steps.new }
 {
@@ -57,10 +54,7 @@ fn proved(
     store: &Store,
 ) -> Result<Vec<Found>, NoMemory>
     requires filled { IsSome store.now.box }
-    requires x { q.now.x.0 < length store.now.shape.signals }
-    requires y { q.now.y.0 < length store.now.shape.signals }
-    requires radius { pos 0 ≤ℤ q.now.radius }
-    requires small { q.now.radius ≤ℤ pos greatest_radius }
+    requires asked { IsAsked (length store.now.shape.signals) q.now }
     requires rates_x { All (λ r. r.0 < length store.now.shape.signals) rates_x.now }
     requires rates_y { All (λ r. r.0 < length store.now.shape.signals) rates_y.now }
     requires components { IfSome store.now.box (λ xs. All (IsComponent (plane_of store.now.shape xs q.now)) sets.items) }
@@ -84,10 +78,7 @@ fn sets_over<L: Ledger>(
     steps: &mut Steps<L>,
 ) -> Result<Option<FoundSets>, NoMemory>
     requires filled { IsSome store.now.box }
-    requires x { q.now.x.0 < length store.now.shape.signals }
-    requires y { q.now.y.0 < length store.now.shape.signals }
-    requires radius { pos 0 ≤ℤ q.now.radius }
-    requires small { q.now.radius ≤ℤ pos greatest_radius }
+    requires asked { IsAsked (length store.now.shape.signals) q.now }
     requires rates { (x : ℕ) → All (λ rate. rate < length store.now.shape.signals) (rates_of items.now x) }
     ensures told { IfOk result (λ told. IsToldOver items.now store.now.shape store.now.box q.now told) }
     ensures steps { TakesAtMost store.now.shape store.now.box (q.now ∷ []) steps.old steps.new }

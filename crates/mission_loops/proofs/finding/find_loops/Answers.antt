@@ -6,17 +6,8 @@ use Rattle.mission_loops.proofs.Asking.{asked-in, rates-in}
 use Rattle.mission_loops.proofs.Law.{told-of}
 use Rattle.mission_loops.proofs.finding.find_loops.Goals as goal
 
-pub sets_over-requires-clause-x : goal.sets_over-requires-clause-x
-sets_over-requires-clause-x g c = (asked-in c.args.mission.now c.requires.mission c.args.upto c.args.store.now.shape c.requires.shape c.args.q.now c.requires.asked).x
-
-pub sets_over-requires-clause-y : goal.sets_over-requires-clause-y
-sets_over-requires-clause-y g c = (asked-in c.args.mission.now c.requires.mission c.args.upto c.args.store.now.shape c.requires.shape c.args.q.now c.requires.asked).y
-
-pub sets_over-requires-clause-radius : goal.sets_over-requires-clause-radius
-sets_over-requires-clause-radius g c = (asked-in c.args.mission.now c.requires.mission c.args.upto c.args.store.now.shape c.requires.shape c.args.q.now c.requires.asked).radius
-
-pub sets_over-requires-clause-small : goal.sets_over-requires-clause-small
-sets_over-requires-clause-small g c = (asked-in c.args.mission.now c.requires.mission c.args.upto c.args.store.now.shape c.requires.shape c.args.q.now c.requires.asked).small
+pub sets_over-requires-clause-asked : goal.sets_over-requires-clause-asked
+sets_over-requires-clause-asked g c = asked-in c.args.mission.now c.requires.mission c.args.upto c.args.store.now.shape c.requires.shape c.args.q.now c.requires.asked
 
 pub sets_over-requires-clause-rates : goal.sets_over-requires-clause-rates
 sets_over-requires-clause-rates g c = rates-in c.args.mission.now c.requires.mission c.args.upto c.args.store.now.shape c.requires.shape c.first_items.result.now c.first_items.ensures
