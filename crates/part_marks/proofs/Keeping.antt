@@ -1,14 +1,14 @@
 -- Where each contractor's unmarked parts left the box, they do so after a firing, and after an addition.
-use Rattle.std.proofs.Common.{◌≡◌, ℕ, zero, suc, ◌<◌, ◌≤◌, ◌⊎◌, inl, inr, Bool, true, false, Option, Some, None, List, [], ◌∷◌, ◌++◌, IfSome, refl, sym, ap, subst, ◌∙◌, length, arith, Contains, All, slice_get, pos}
+use Rattle.std.proofs.Common.{◌≡◌, ℕ, zero, suc, ◌<◌, ◌≤◌, ◌⊎◌, inl, inr, Bool, true, false, Option, Some, None, List, [], ◌∷◌, ◌++◌, IfSome, refl, sym, ap, subst, ◌∙◌, length, arith, Contains, All, slice_get}
 use Rattle.std.proofs.lemmas.Bool.{cases_eq}
 use Rattle.tube_spec.specs.Span.{Span}
 use Rattle.tube_spec.specs.Shape.{Shape, IsShape, Extends}
-use Rattle.tube_spec.specs.Box.{IsBox, IsBelow, IsBelowBox, box_more, cell_at}
+use Rattle.tube_spec.specs.Box.{IsBox, IsBelowBox, box_more, cell_at}
 use Rattle.tube_spec.specs.Projection.{Projection, ReadsOnly}
 use Rattle.tube_spec.specs.Owner.{Owner, with_owner, declared_cells}
 use Rattle.tube_spec.proofs.Hulls.{owner-extends}
-use Rattle.tube_store.specs.State.{State, IsStore, state_with}
-use Rattle.ctc_core.specs.Revising.{IfBoth, IsNarrower, AddsNarrower}
+use Rattle.tube_store.specs.State.{State, IsStore}
+use Rattle.ctc_core.specs.Revising.{IfBoth, AddsNarrower}
 use Rattle.ctc_core.specs.Answers.{Revises}
 use Rattle.ctc_core.specs.declared.Revised.{Revised}
 use Rattle.ctc_core.proofs.Firing.{IsBox-of}

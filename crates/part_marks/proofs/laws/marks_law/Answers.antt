@@ -1,4 +1,4 @@
-use Rattle.std.proofs.Common.{ℕ, Contains}
+use Rattle.std.proofs.Common.{Contains}
 use Rattle.cell_readers.specs.Entries.{readers_at}
 use Rattle.part_marks.proofs.Keeping.{marked-added, beside-added, marked-grown, beside-grown, marked-fired}
 use Rattle.part_marks.proofs.laws.marks_law.Goals as goal

@@ -1,4 +1,4 @@
-use Rattle.std.proofs.Common.{◌≡◌, ◌<◌, ◌≤◌, ℕ, Some, None, true, Contains, length, sym, ap, subst}
+use Rattle.std.proofs.Common.{◌≡◌, ◌<◌, ◌≤◌, Some, None, true, Contains, length, sym, subst}
 use Rattle.std.proofs.lemmas.List.{get_or-set_same}
 use Rattle.part_marks.specs.Marks.{Marked, marked_at}
 use Rattle.part_marks.proofs.Reaching.{no_marks, same-default, there-is, one-there, none-there}

@@ -1,4 +1,4 @@
-use Rattle.std.proofs.Common.{◌≡◌, ◌<◌, ◌≤◌, ℕ, List, All, Contains, length, ◌++◌, ◌∷◌, [], rules, sym, ap, subst, ◌∙◌, append_assoc, append-nil, arith}
+use Rattle.std.proofs.Common.{◌≡◌, ◌<◌, ℕ, List, All, Contains, length, ◌++◌, ◌∷◌, [], rules, sym, ap, subst, ◌∙◌, append_assoc, append-nil, arith}
 use Rattle.cell_readers.specs.Entries.{readers_at}
 use Rattle.cell_readers.proofs.Noted.{woken-more, met-next}
 use Rattle.part_marks.specs.Nets.{IsReached}

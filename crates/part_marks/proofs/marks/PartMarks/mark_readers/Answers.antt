@@ -1,4 +1,4 @@
-use Rattle.std.proofs.Common.{◌<◌, ◌≤◌, arith}
+use Rattle.std.proofs.Common.{arith}
 use Rattle.part_marks.proofs.marks.PartMarks.mark_readers.Goals as goal
 
 pub returns-clause-marked : goal.returns-clause-marked
