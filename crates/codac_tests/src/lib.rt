@@ -1,14 +1,10 @@
-//! Worked missions, run from bytes to bytes over the crates together. All expected numbers were worked out from the formulas, and none
-//! was taken from the program.
+//! What no run of the built program shows: runs over ends that fail, what a run in memory hands out, and degrees of given labels. Expected
+//! values were worked out from the formulas, and none was taken from the program. Worked missions stand in `tests/reports`.
 #![tactic(auto)]
 
 #[cfg(test)]
-mod read_logs;
+mod degrees;
 #[cfg(test)]
-mod run_hostile;
+mod ends;
 #[cfg(test)]
-mod run_loops;
-#[cfg(test)]
-mod run_missions;
-#[cfg(test)]
-mod run_sections;
+mod in_memory;
