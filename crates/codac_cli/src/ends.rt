@@ -1,4 +1,5 @@
-//! Sources and sinks that give and take little a call, and of which single calls fail.
+//! Runs over sources and sinks that give and take little a call, and of which single calls fail. Expected bytes were worked out from the
+//! formulas, and none was taken from the program. Worked missions stand in `tests/reports`.
 
 ghost use Rattle.std.specs.Prelude.{◌≡◌, ◌<◌};
 
