@@ -53,7 +53,7 @@ def measured(*words, log=None, wanted=0):
     return printed.decode().strip(), seconds, memory * 1024
 
 
-def least(path, *words, turns=5):
+def least(path, *words, turns=5, log=None):
     """Returns what a program prints, the least time of some runs and the peak of memory."""
-    runs = [measured(path, *words) for _ in range(turns)]
+    runs = [measured(path, *words, log=log) for _ in range(turns)]
     return runs[0][0], min(seconds for _, seconds, _ in runs), max(memory for _, _, memory in runs)

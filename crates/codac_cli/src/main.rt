@@ -2,6 +2,11 @@
 //! its status.
 #![tactic(auto)]
 
+#[cfg(test)]
+mod ends;
+#[cfg(test)]
+mod in_memory;
+
 ghost use Rattle.std.specs.Prelude.{◌≡◌, ◌<◌};
 
 use cli_words::Words;

@@ -1,16 +1,8 @@
-//! Worked planes of tick pairs: judgement, paving, components, degree, and what is found of a set. All expected values were worked out from
-//! the formulas, and none was taken from the program.
+//! Cells, labels and degrees one by one, which no run of the program prints. All expected values were worked out from the formulas, and none was
+//! taken from the program. Worked questions stand in `tests/reports`.
 #![tactic(auto)]
 
 #[cfg(test)]
-mod degree;
+mod degrees;
 #[cfg(test)]
-mod judgement;
-#[cfg(test)]
-mod labels;
-#[cfg(test)]
-mod paving;
-#[cfg(test)]
-mod sets;
-#[cfg(test)]
-mod texts;
+mod path;

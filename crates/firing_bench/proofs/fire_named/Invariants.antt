@@ -1,4 +1,0 @@
-use Rattle.firing_bench.proofs.fire_named.Given as goal
-
-abbrev pub ghosts-fire_often : goal.ghosts-fire_often
-ghosts-fire_often a = record { name = a.blank.name; parts = a.blank.parts }

@@ -1,4 +1,0 @@
-use Rattle.loop_tests.proofs.texts.queried.Given as goal
-
-abbrev pub ghosts-sets_of : goal.ghosts-sets_of
-ghosts-sets_of g a = record { name = a.blank.name; parts = a.blank.parts }
