@@ -1,5 +1,5 @@
-/* Lets one read of standard input or one write of standard output of the program that it is loaded into fail: the one whose number, from 1
-   on, FAILED says, of the kind that KIND says (read or write). Where MOST says a number, no read or write takes more bytes than it. */
+/* Lets reads of standard input or writes of standard output of the program that it is loaded into fail: of the kind that KIND says (read or
+   write) the one whose number, from 1 on, FAILED says, and each after it. Where MOST says a number, no read or write takes more bytes than it. */
 #define _GNU_SOURCE
 #include <dlfcn.h>
 #include <errno.h>
@@ -14,7 +14,7 @@ static long said(const char *name) {
 
 static int fails(const char *kind, long *count) {
   const char *chosen = getenv("KIND");
-  return chosen && !strcmp(chosen, kind) && ++*count == said("FAILED");
+  return chosen && !strcmp(chosen, kind) && ++*count >= said("FAILED");
 }
 
 static size_t most(size_t size) {
