@@ -2,6 +2,7 @@
 
 ghost use Rattle.std.specs.Prelude.{◌≡◌, ◌↔◌, ◌*◌, ◌^◌, ◌<◌, ◌≤◌, pos, ◌≤ℤ◌, length, IfOk, IfSome, IsSome, IsErrOf};
 ghost use Rattle.tube_spec.specs.Limits.{greatest_radius};
+ghost use Rattle.hull_tree.specs.Asked.{IsAsked};
 ghost use Rattle.area_paver.specs.Lattice.{greatest_step, most_points, axis_of, signal_hull, widened, IsAxis};
 ghost use Rattle.area_paver.specs.Survey.{survey_of};
 ghost use Rattle.area_paver.specs.Charts.{IsChart, IsChartOver, points_of};
@@ -23,10 +24,7 @@ pub const MOST_POINTS: u128 = 4_000_000;
 /// the points of the shorter side, and the points. The query's gap is not used.
 pub fn area(alloc: Global, store: &Store, q: &Query, step: i64) -> Result<Area, AreaFault>
     requires filled { IsSome store.now.box }
-    requires x { q.now.x.0 < length store.now.shape.signals }
-    requires y { q.now.y.0 < length store.now.shape.signals }
-    requires radius { pos 0 ≤ℤ q.now.radius }
-    requires small { q.now.radius ≤ℤ pos greatest_radius }
+    requires asked { IsAsked (length store.now.shape.signals) q.now }
     requires step { pos 1 ≤ℤ step }
     requires wide { step ≤ℤ pos greatest_step }
     ensures chart { IfOk result (λ chart. IfSome store.now.box (λ xs. IsChart store.now.shape xs q.now step chart)) }
@@ -69,10 +67,7 @@ fn chart(
     rows: Axis,
 ) -> Result<Area, AllocError>
     requires filled { IsSome store.now.box }
-    requires x { q.now.x.0 < length store.now.shape.signals }
-    requires y { q.now.y.0 < length store.now.shape.signals }
-    requires radius { pos 0 ≤ℤ q.now.radius }
-    requires small { q.now.radius ≤ℤ pos greatest_radius }
+    requires asked { IsAsked (length store.now.shape.signals) q.now }
     requires columns { IsAxis columns }
     requires rows { IsAxis rows }
     requires few { columns.count * rows.count ≤ most_points }

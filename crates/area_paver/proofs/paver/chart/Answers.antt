@@ -14,4 +14,4 @@ pub returns : goal.returns
 returns c =
     let xs = subst (λ (l : List Span). IfSome c.args.store.now.box (λ box. l ≡ tube_of c.args.store.now.shape box c.args.q.now.x.0)) (sym c.deref.ensures.value) c.in_ok-xs.ensures.tube in
     let ys = subst (λ (l : List Span). IfSome c.args.store.now.box (λ box. l ≡ tube_of c.args.store.now.shape box c.args.q.now.y.0)) (sym c.deref-2.ensures.value) c.in_ok-ys.ensures.tube in
-    chart-told c.args.store.now.box c.args.store.now.shape c.args.q.now c.deref.result.now c.deref-2.result.now _ c.args.columns c.args.rows _ xs ys (natural-is c.args.q.now.radius _ c.requires.radius (omega (arith, ints))) refl refl c.in_ok-lines.ensures.marks
+    chart-told c.args.store.now.box c.args.store.now.shape c.args.q.now c.deref.result.now c.deref-2.result.now _ c.args.columns c.args.rows _ xs ys (natural-is c.args.q.now.radius _ c.requires.asked.radius.least (omega (arith, ints))) refl refl c.in_ok-lines.ensures.marks
