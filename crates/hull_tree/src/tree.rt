@@ -44,7 +44,7 @@ pub struct HullTree {
 
 impl Model for HullTree {
     ghost use Rattle.hull_tree.specs.Asked.{IsAsked};
-ghost use Rattle.hull_tree.specs.Plane.{Plane, IsPlane};
+    ghost use Rattle.hull_tree.specs.Plane.{Plane, IsPlane};
 
     ghost Value = { Plane };
 
