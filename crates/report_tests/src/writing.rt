@@ -2,7 +2,9 @@
 
 ghost use Rattle.std.specs.Prelude.{◌≡◌, ◌↔◌, ◌≤◌, ◌≤ℤ◌, IfOk, IsNone, length, negsuc, pos, take};
 ghost use Rattle.mission_items.specs.Made.{signals_in, variables_in};
+ghost use Rattle.tube_spec.specs.Limits.{most_signals, most_variables};
 ghost use Rattle.tube_spec.specs.Span.{IsBounded};
+ghost use Rattle.tube_report.specs.Places.{listed};
 
 use int_interval::Interval;
 use log_fields::Cause;
@@ -38,7 +40,8 @@ fn grid(alloc: Global) -> Result<Grid, NoMemory> {
 fn small_mission(alloc: Global) -> Result<Mission, NoMemory>
     ensures { IfOk result (λ m. (length m.items ≡ 6)
         × (signals_in (take 5 m.items) ≡ 2) × (variables_in (take 5 m.items) ≡ 2)
-        × (signals_in (take 6 m.items) ≡ 2) × (variables_in (take 6 m.items) ≡ 3)) }
+        × (signals_in (take 6 m.items) ≡ 2) × (variables_in (take 6 m.items) ≡ 3)
+        × (signals_in m.items ≡ 2) × (variables_in m.items ≡ 3)) }
 {
     let cuts = grid(alloc)?;
     let x = Text::new(alloc, b"x")?;
@@ -117,25 +120,39 @@ fn verdict_of(store: &Store) -> Verdict
     Verdict::Settled
 }
 
+// The list of the first records of a mission.
+fn first_places(alloc: Global, mission: &Mission, upto: usize) -> Result<Places, NoMemory>
+    requires upto { upto ≤ length mission.now.items }
+    requires signals { signals_in mission.now.items ≤ most_signals }
+    requires variables { variables_in mission.now.items ≤ most_variables }
+    ensures { IfOk result (λ places. places ≡ listed (take upto mission.now.items)) }
+{
+    let mut places = Places::new(alloc);
+    places.extend(mission, 0, upto)?;
+    Ok(places)
+}
+
 fn assert_section(
     rt: &impl Abort,
     mission: &Mission,
     upto: usize,
+    places: &Places,
     store: &Store,
     brief: bool,
     want: &[u8],
 )
     requires upto { upto ≤ length mission.now.items }
+    requires places { places.now ≡ listed (take upto mission.now.items) }
     requires signals { length store.now.shape.signals ≡ signals_in (take upto mission.now.items) }
     requires variables { length store.now.shape.vars ≡ variables_in (take upto mission.now.items) }
 {
     let verdict = verdict_of(store);
     let mut sink = SureSink::<1000>::new();
-    let written = write_section(mission, upto, 1, verdict, store, brief, &mut sink);
+    let written = write_section(mission, upto, places, 1, verdict, store, brief, &mut sink);
     assert_eq!(rt; written, Ok(()));
     assert_eq!(rt; sink.bytes(), want);
     let mut small = SureSink::<20>::new();
-    let written = write_section(mission, upto, 1, verdict, store, brief, &mut small);
+    let written = write_section(mission, upto, places, 1, verdict, store, brief, &mut small);
     assert_eq!(rt; written.is_err(), want.len() > 20);
     assert!(rt; want.starts_with(small.bytes()));
 }
@@ -159,12 +176,14 @@ fn sections(rt: HostRuntime) -> Result<(), Fail> {
     ] {
         narrow(&mut store, cell, lo, hi);
     }
-    assert_section(&rt, &mission, 5, &store, false, TUBES);
+    let fewer = first_places(rt.alloc(), &mission, 5)?;
+    assert_section(&rt, &mission, 5, &fewer, &store, false, TUBES);
     store.add_var(range(-7, -1))?;
-    assert_section(&rt, &mission, 6, &store, true, BRIEF);
+    let places = first_places(rt.alloc(), &mission, 6)?;
+    assert_section(&rt, &mission, 6, &places, &store, true, BRIEF);
     narrow(&mut store, 0, 5, 5);
     for brief in [false, true] {
-        assert_section(&rt, &mission, 6, &store, brief, b"section 1 empty\nend 1\n");
+        assert_section(&rt, &mission, 6, &places, &store, brief, b"section 1 empty\nend 1\n");
     }
     Ok(())
 }

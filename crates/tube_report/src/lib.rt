@@ -5,9 +5,11 @@
 #![tactic(auto)]
 
 pub mod laws;
+pub mod listed;
 pub mod refusal;
 pub mod section;
 pub mod tube;
 
+pub use listed::{Place, Places};
 pub use refusal::write_fault;
 pub use section::{Verdict, write_section};
