@@ -183,7 +183,15 @@ fn sections(rt: HostRuntime) -> Result<(), Fail> {
     assert_section(&rt, &mission, 6, &places, &store, true, BRIEF);
     narrow(&mut store, 0, 5, 5);
     for brief in [false, true] {
-        assert_section(&rt, &mission, 6, &places, &store, brief, b"section 1 empty\nend 1\n");
+        assert_section(
+            &rt,
+            &mission,
+            6,
+            &places,
+            &store,
+            brief,
+            b"section 1 empty\nend 1\n",
+        );
     }
     Ok(())
 }

@@ -135,7 +135,13 @@ fn write_signal_at<K: Sink>(
     ensures { Sends K.written K.flushed K.faults
         (flat_map (signal_text store.now.shape (unwrap_or store.now.box []) brief) (names_at items.now place.now)) sink.old sink.new result }
 {
-    write_signal(&items[place.index], SignalId(place.signals), store, brief, sink)
+    write_signal(
+        &items[place.index],
+        SignalId(place.signals),
+        store,
+        brief,
+        sink,
+    )
 }
 
 fn write_signals<K: Sink>(

@@ -10,6 +10,6 @@ returns g c =
     let items = c.args.items.now in
     let p = c.args.place.now in
     subst (λ (names : List (List ℕ × Decl)). Sends g.K.Sink.written g.K.Sink.flushed g.K.Sink.faults
-        (flat_map (variable_text c.args.store.now.shape (unwrap_or c.args.store.now.box [])) names) c.args.sink.now c.write_variable.new.sink c.write_variable.result)
+    (flat_map (variable_text c.args.store.now.shape (unwrap_or c.args.store.now.box [])) names) c.args.sink.now c.write_variable.new.sink c.write_variable.result)
     (item_at items p c.index-items-place.result c.requires.stands c.index-items-place.is)
     (c.write_variable.ensures (take p.index items) c.requires.stands.variables)

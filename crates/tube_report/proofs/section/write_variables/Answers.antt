@@ -9,12 +9,10 @@ use Rattle.tube_report.proofs.section.write_variables.Goals as goal
 pub returns-in_err-write_variable_at : goal.returns-in_err-write_variable_at
 returns-in_err-write_variable_at g c =
     let text = λ (p : Place). flat_map (variable_text c.args.store.now.shape (unwrap_or c.args.store.now.box [])) (names_at c.args.items.now p) in
-    let here = rw c.item-place.is at c.in_err-write_variable_at.ensures in
     sends_error _ _ _ _ _ _ _ _ c.from_residual.ensures.0
-    (sends_fail _ _ _ text c.args.places.now c.loop-place.place-index c.item-place.result _ _ _ _ c.loop-place-test.true c.loop-place.invariant here)
+    (sends_fail _ _ _ text c.args.places.now c.loop-place.place-index _ _ _ _ _ c.loop-place-test.true c.loop-place.invariant c.in_err-write_variable_at.ensures)
 
 pub loop-place-preserved : goal.loop-place-preserved
 loop-place-preserved g c =
     let text = λ (p : Place). flat_map (variable_text c.args.store.now.shape (unwrap_or c.args.store.now.box [])) (names_at c.args.items.now p) in
-    let here = rw c.item-place.is at c.in_ok-write_variable_at.ensures in
-    sends_next _ _ _ text c.args.places.now c.loop-place.place-index c.item-place.result _ _ _ c.loop-place-test.true c.loop-place.invariant here
+    sends_next _ _ _ text c.args.places.now c.loop-place.place-index _ _ _ _ c.loop-place-test.true c.loop-place.invariant c.in_ok-write_variable_at.ensures
