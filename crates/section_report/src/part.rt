@@ -6,6 +6,7 @@ ghost use Rattle.mission_items.specs.Valid.{IsMission};
 ghost use Rattle.mission_net.specs.Records.{IsEnclosure};
 ghost use Rattle.mission_net.specs.Tables.{IsTableOf};
 ghost use Rattle.mission_net.specs.Building.{IsNetOf};
+ghost use Rattle.tube_report.specs.Places.{listed};
 ghost use Rattle.section_report.specs.Sections.{section_of, is_spent, IsSectionOf, GoesOn, cost_of};
 ghost use Rattle.section_report.specs.Texts.{text_of, verdict_of};
 
@@ -15,7 +16,7 @@ use mission_net::{AnyCtc, Made, SectionEnd, next_section};
 use std::sync::ledger::Ledger;
 use step_count::Steps;
 use tube_io::{NoMemory, Sink, WriteFault};
-use tube_report::{Verdict, write_section};
+use tube_report::{Places, Verdict, write_section};
 
 /// How sections are settled and written.
 #[derive(Clone, Copy, Debug, PartialEq, Eq)]
@@ -74,6 +75,7 @@ pub fn write_part<K: Sink, L: Ledger>(
     mission: &Mission,
     part: Part,
     choices: Choices,
+    places: &mut Places,
     table: &mut Made,
     net: &mut Net<AnyCtc>,
     sink: &mut K,
@@ -82,11 +84,13 @@ pub fn write_part<K: Sink, L: Ledger>(
     requires order { part.first ≤ part.upto }
     requires within { part.upto ≤ length mission.now.items }
     requires mission { IsMission mission.now }
+    requires places { places.old ≡ listed (take part.first mission.now.items) }
     requires table { IsTableOf table.old (take part.first mission.now.items) }
     requires holds { IsNetOf mission.now.cuts (take part.first mission.now.items) net.old }
     requires before { IsEnclosure mission.now.cuts (take part.first mission.now.items) net.old.store.box }
 
-    // The net and the table are those of the records so far, and the box is that of their section.
+    // The list, the table and the net are those of the records so far, and the box is that of their section.
+    ensures places { OnOk result (places.new ≡ listed (take part.upto mission.now.items)) }
     ensures table { OnOk result (IsTableOf table.new (take part.upto mission.now.items)) }
     ensures holds { OnOk result (IsNetOf mission.now.cuts (take part.upto mission.now.items) net.new) }
     ensures section { IfOk result (λ s. IsSectionOf mission.now choices.budget (section_of part.upto s.end net.new.store.box)) }
@@ -103,6 +107,7 @@ pub fn write_part<K: Sink, L: Ledger>(
     ensures writes { IfOk result (λ s. Sends K.written K.flushed K.faults (text_of mission.now choices.brief part.number (section_of part.upto s.end net.new.store.box)) sink.old sink.new s.written) }
     ensures silent { OnErr result (sink.new ≡ sink.old) }
 {
+    places.extend(mission, part.first, part.upto)?;
     let end = next_section(
         mission,
         part.first,
@@ -117,6 +122,7 @@ pub fn write_part<K: Sink, L: Ledger>(
     let written = write_section(
         mission,
         part.upto,
+        places,
         part.number,
         verdict,
         net.store(),

@@ -14,6 +14,7 @@ use std::alloc::Global;
 use std::sync::ledger::Ledger;
 use step_count::Steps;
 use tube_io::{NoMemory, Sink};
+use tube_report::Places;
 
 // Whether a record ends a section.
 fn is_settle(item: &Item) -> bool
@@ -42,6 +43,7 @@ pub fn write_sections<K: Sink, L: Ledger>(
     ensures cut_short { OnErr result (IsCutShort K.written K.flushed K.faults mission.now choices sink.old sink.new steps.old steps.new) }
 {
     let items = mission.items.as_slice();
+    let mut places = Places::new(alloc);
     let mut table = Made::new(alloc);
     let mut number = 1;
     let mut first = 0;
@@ -52,7 +54,16 @@ pub fn write_sections<K: Sink, L: Ledger>(
                 first,
                 upto,
             };
-            let section = write_part(mission, part, choices, &mut table, net, sink, steps)?;
+            let section = write_part(
+                mission,
+                part,
+                choices,
+                &mut places,
+                &mut table,
+                net,
+                sink,
+                steps,
+            )?;
             if section.ends_report() {
                 return Ok(section);
             }
@@ -65,5 +76,14 @@ pub fn write_sections<K: Sink, L: Ledger>(
         first,
         upto: items.len(),
     };
-    write_part(mission, part, choices, &mut table, net, sink, steps)
+    write_part(
+        mission,
+        part,
+        choices,
+        &mut places,
+        &mut table,
+        net,
+        sink,
+        steps,
+    )
 }

@@ -1,5 +1,5 @@
 pub mod Written
 pub mod VarLines
 pub mod Summaries
-pub mod Declarations
 pub mod Boxes
+pub mod Listing

@@ -1,4 +1,5 @@
 pub mod Lines
 pub mod Causes
 pub mod Sections
+pub mod Places
 pub mod Laws

@@ -1,14 +1,16 @@
 //! The text of a section.
 
-ghost use Rattle.std.specs.Prelude.{◌≡◌, ℕ, List, ◌+◌, ◌++◌, ◌≤◌, ◌↔◌, [], IsNone, IsSome, flat_map, length, take, unwrap_or};
+ghost use Rattle.std.specs.Prelude.{◌≡◌, ℕ, List, ◌+◌, ◌++◌, ◌≤◌, ◌↔◌, [], All, IsNone, IsSome, flat_map, length, take, unwrap_or};
 ghost use Rattle.mission_items.specs.Made.{signals_in, signals_made, variables_in, variables_made};
-ghost use Rattle.mission_items.specs.Names.{declared, names_of};
+ghost use Rattle.mission_items.specs.Names.{names_of};
 ghost use Rattle.mission_items.specs.declared.item.Item.{Item};
 ghost use Rattle.log_spelling.specs.References.{part_text, reference_text};
 ghost use Rattle.tube_io.specs.Sends.{Sends};
 ghost use Rattle.tube_report.specs.Lines.{first_line, last_line, range_text, var_line, verdict_word};
+ghost use Rattle.tube_report.specs.Places.{Stands, listed, names_at, places_of};
 ghost use Rattle.tube_report.specs.Sections.{box_text, section_text, signal_text, variable_line, variable_text};
 
+use crate::listed::{Place, Places};
 use crate::tube::{held, write_brief, write_tube};
 use int_interval::Interval;
 use log_spelling::Part;
@@ -119,22 +121,44 @@ fn write_signal<K: Sink>(
     }
 }
 
-fn write_signals<K: Sink>(
+// What the record at a place declares among the signals.
+fn write_signal_at<K: Sink>(
     items: &[Item],
+    place: &Place,
     store: &Store,
     brief: bool,
     sink: &mut K,
 ) -> Result<(), WriteFault>
+    requires stands { Stands items.now place.now }
     requires signals { length store.now.shape.signals ≡ signals_in items.now }
     requires filled { IsSome store.now.box }
     ensures { Sends K.written K.flushed K.faults
-        (flat_map (signal_text store.now.shape (unwrap_or store.now.box []) brief) (declared items.now)) sink.old sink.new result }
+        (flat_map (signal_text store.now.shape (unwrap_or store.now.box []) brief) (names_at items.now place.now)) sink.old sink.new result }
 {
-    store.known();
-    let mut signal = 0;
-    for item in items {
-        write_signal(item, SignalId(signal), store, brief, sink)?;
-        signal += item.signals_made();
+    write_signal(
+        &items[place.index],
+        SignalId(place.signals),
+        store,
+        brief,
+        sink,
+    )
+}
+
+fn write_signals<K: Sink>(
+    items: &[Item],
+    places: &[Place],
+    store: &Store,
+    brief: bool,
+    sink: &mut K,
+) -> Result<(), WriteFault>
+    requires stand { All (Stands items.now) places.now }
+    requires signals { length store.now.shape.signals ≡ signals_in items.now }
+    requires filled { IsSome store.now.box }
+    ensures { Sends K.written K.flushed K.faults
+        (flat_map (λ place. flat_map (signal_text store.now.shape (unwrap_or store.now.box []) brief) (names_at items.now place)) places.now) sink.old sink.new result }
+{
+    for place in places {
+        write_signal_at(items, place, store, brief, sink)?;
     }
     Ok(())
 }
@@ -179,17 +203,36 @@ fn write_variable<K: Sink>(
     }
 }
 
-fn write_variables<K: Sink>(items: &[Item], store: &Store, sink: &mut K) -> Result<(), WriteFault>
+// What the record at a place declares among the variables.
+fn write_variable_at<K: Sink>(
+    items: &[Item],
+    place: &Place,
+    store: &Store,
+    sink: &mut K,
+) -> Result<(), WriteFault>
+    requires stands { Stands items.now place.now }
     requires variables { length store.now.shape.vars ≡ variables_in items.now }
     requires filled { IsSome store.now.box }
     ensures { Sends K.written K.flushed K.faults
-        (flat_map (variable_text store.now.shape (unwrap_or store.now.box [])) (declared items.now)) sink.old sink.new result }
+        (flat_map (variable_text store.now.shape (unwrap_or store.now.box [])) (names_at items.now place.now)) sink.old sink.new result }
 {
-    store.known();
-    let mut var = 0;
-    for item in items {
-        write_variable(item, VarId(var), store, sink)?;
-        var += item.variables_made();
+    write_variable(&items[place.index], VarId(place.variables), store, sink)
+}
+
+fn write_variables<K: Sink>(
+    items: &[Item],
+    places: &[Place],
+    store: &Store,
+    sink: &mut K,
+) -> Result<(), WriteFault>
+    requires stand { All (Stands items.now) places.now }
+    requires variables { length store.now.shape.vars ≡ variables_in items.now }
+    requires filled { IsSome store.now.box }
+    ensures { Sends K.written K.flushed K.faults
+        (flat_map (λ place. flat_map (variable_text store.now.shape (unwrap_or store.now.box [])) (names_at items.now place)) places.now) sink.old sink.new result }
+{
+    for place in places {
+        write_variable_at(items, place, store, sink)?;
     }
     Ok(())
 }
@@ -197,10 +240,12 @@ fn write_variables<K: Sink>(items: &[Item], store: &Store, sink: &mut K) -> Resu
 // The lines of all signals and named variables, and none for the empty box.
 fn write_box<K: Sink>(
     items: &[Item],
+    places: &[Place],
     store: &Store,
     brief: bool,
     sink: &mut K,
 ) -> Result<(), WriteFault>
+    requires places { places.now ≡ places_of items.now }
     requires signals { length store.now.shape.signals ≡ signals_in items.now }
     requires variables { length store.now.shape.vars ≡ variables_in items.now }
     ensures { Sends K.written K.flushed K.faults (box_text items.now store.now.shape store.now.box brief) sink.old sink.new result }
@@ -208,27 +253,29 @@ fn write_box<K: Sink>(
     if store.is_empty() {
         return Ok(());
     }
-    write_signals(items, store, brief, sink)?;
-    write_variables(items, store, sink)
+    write_signals(items, places, store, brief, sink)?;
+    write_variables(items, places, store, sink)
 }
 
 // The section of these records.
 #[tactic(auto, unfolding(crate::specs::Sections::section_text))]
 fn write_records<K: Sink>(
     items: &[Item],
+    places: &[Place],
     number: u32,
     verdict: Verdict,
     store: &Store,
     brief: bool,
     sink: &mut K,
 ) -> Result<(), WriteFault>
+    requires places { places.now ≡ places_of items.now }
     requires signals { length store.now.shape.signals ≡ signals_in items.now }
     requires variables { length store.now.shape.vars ≡ variables_in items.now }
     ensures { Sends K.written K.flushed K.faults
         (section_text items.now number verdict store.now.shape store.now.box brief) sink.old sink.new result }
 {
     write_first_line(number, verdict, sink)?;
-    write_box(items, store, brief, sink)?;
+    write_box(items, places, store, brief, sink)?;
     write_last_line(number, sink)
 }
 
@@ -236,10 +283,12 @@ fn write_records<K: Sink>(
 /// variables that these records make: its first line with its number and verdict, each signal in order of
 /// declaration, each named variable in order of declaration, and its last line. A signal is written slice
 /// by slice, or with `brief` in one line. The empty box has only the first and the last line. After an
-/// error, which is a failed write, a prefix of the section was taken. It takes no memory.
+/// error, which is a failed write, a prefix of the section was taken. It takes no memory, and looks at no
+/// other records than those that the list has.
 pub fn write_section<K: Sink>(
     mission: &Mission,
     upto: usize,
+    places: &Places,
     number: u32,
     verdict: Verdict,
     store: &Store,
@@ -247,6 +296,7 @@ pub fn write_section<K: Sink>(
     sink: &mut K,
 ) -> Result<(), WriteFault>
     requires upto { upto ≤ length mission.now.items }
+    requires places { places.now ≡ listed (take upto mission.now.items) }
     requires signals { length store.now.shape.signals ≡ signals_in (take upto mission.now.items) }
     requires variables { length store.now.shape.vars ≡ variables_in (take upto mission.now.items) }
     requires empty { (verdict ≡ Verdict.Empty) ↔ IsNone store.now.box }
@@ -254,5 +304,5 @@ pub fn write_section<K: Sink>(
         (section_text (take upto mission.now.items) number verdict store.now.shape store.now.box brief) sink.old sink.new result }
 {
     let (items, _) = mission.items.as_slice().split_at(upto);
-    write_records(items, number, verdict, store, brief, sink)
+    write_records(items, places.places(), number, verdict, store, brief, sink)
 }

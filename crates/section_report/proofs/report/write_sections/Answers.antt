@@ -25,6 +25,7 @@ if-ok-then (Err e) A B C D F G I H a b c d f g i h = tt
 pub loop-upto-init : goal.loop-upto-init
 loop-upto-init g c = record {
   sections = written-none g.K.Sink.written g.K.Sink.flushed g.K.Sink.faults c.args.mission.now c.args.choices c.args.sink.now c.args.steps.now c.args.net.now c.requires.fresh;
+  places = c.new-places.ensures;
   table = c.new-table.ensures;
 }
 
@@ -57,16 +58,17 @@ loop-upto-preserved g c =
     elim c.if-is_settle.branch [
       | then-is_settle+in_ok-section+else-ends_report w ↦
           let e = w.in_ok-section.ensures in
-          rw (w.first-is, w.number-is, w.net-is, w.sink-is, w.steps-is, w.table-is)
+          rw (w.first-is, w.number-is, w.net-is, w.sink-is, w.steps-is, w.table-is, w.places-is)
           (record {
             sections = written-more g.K.Sink.written g.K.Sink.flushed g.K.Sink.faults m c.args.choices c.args.sink.now c.args.steps.now i c.loop-upto.first c.loop-upto.number c.loop-upto.net w.write_part.new.net c.loop-upto.sink w.write_part.new.sink c.loop-upto.steps w.write_part.new.steps w.in_ok-section.section
                 c.loop-upto.invariant.sections e.holds e.section e.goes_on e.resting e.place e.writes e.cost
                 x inside more (sym c.is_settle.ensures ∙ w.if-is_settle.true) (sym w.ends_report.ensures ∙ w.if-ends_report.false);
+            places = e.places;
             table = e.table;
           })
       | else-is_settle w ↦
-          rw (w.first-is, w.number-is, w.net-is, w.sink-is, w.steps-is, w.table-is)
-          (record { sections = written-past g.K.Sink.written g.K.Sink.flushed g.K.Sink.faults m c.args.choices c.args.sink.now c.args.steps.now i c.loop-upto.first c.loop-upto.number c.loop-upto.net c.loop-upto.sink c.loop-upto.steps x inside more (sym c.is_settle.ensures ∙ w.if-is_settle.false) c.loop-upto.invariant.sections; table = c.loop-upto.invariant.table })
+          rw (w.first-is, w.number-is, w.net-is, w.sink-is, w.steps-is, w.table-is, w.places-is)
+          (record { sections = written-past g.K.Sink.written g.K.Sink.flushed g.K.Sink.faults m c.args.choices c.args.sink.now c.args.steps.now i c.loop-upto.first c.loop-upto.number c.loop-upto.net c.loop-upto.sink c.loop-upto.steps x inside more (sym c.is_settle.ensures ∙ w.if-is_settle.false) c.loop-upto.invariant.sections; places = c.loop-upto.invariant.places; table = c.loop-upto.invariant.table })
     ]
 
 pub returns-clause-reported : goal.returns-clause-reported

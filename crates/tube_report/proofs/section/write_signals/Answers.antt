@@ -1,24 +1,18 @@
-use Rattle.std.proofs.Common.{[], ap, sym, arith, take, unwrap_or}
-use Rattle.std.proofs.lemmas.List.Sums.{sum_by_more}
-use Rattle.mission_items.specs.Made.{signals_made}
+use Rattle.std.proofs.Common.{[], flat_map, unwrap_or}
+use Rattle.tube_io.proofs.Sent.{sends_fail, sends_next}
+use Rattle.tube_report.specs.Places.{names_at}
 use Rattle.tube_report.specs.Sections.{signal_text}
-use Rattle.tube_report.proofs.Declarations.{sends_no_record, sends_record}
+use Rattle.tube_report.specs.declared.listed.Place.{Place}
 use Rattle.tube_report.proofs.Written.{sends_error}
 use Rattle.tube_report.proofs.section.write_signals.Goals as goal
 
-pub returns-in_err-write_signal : goal.returns-in_err-write_signal
-returns-in_err-write_signal g c =
-    let text = signal_text c.args.store.now.shape (unwrap_or c.args.store.now.box []) c.args.brief in
-    let here = rw c.item-item.is at (c.in_err-write_signal.ensures (take c.loop-item.item-index c.args.items.now) (sym c.loop-item.invariant.count)) in
+pub returns-in_err-write_signal_at : goal.returns-in_err-write_signal_at
+returns-in_err-write_signal_at g c =
+    let text = λ (p : Place). flat_map (signal_text c.args.store.now.shape (unwrap_or c.args.store.now.box []) c.args.brief) (names_at c.args.items.now p) in
     sends_error _ _ _ _ _ _ _ _ c.from_residual.ensures.0
-    (sends_no_record _ _ _ text c.args.items.now c.loop-item.item-index c.item-item.result _ _ _ _ c.loop-item-test.true c.loop-item.invariant.written here)
+    (sends_fail _ _ _ text c.args.places.now c.loop-place.place-index _ _ _ _ _ c.loop-place-test.true c.loop-place.invariant c.in_err-write_signal_at.ensures)
 
-pub loop-item-preserved : goal.loop-item-preserved
-loop-item-preserved g c =
-    let text = signal_text c.args.store.now.shape (unwrap_or c.args.store.now.box []) c.args.brief in
-    let here = rw c.item-item.is at (c.in_ok-write_signal.ensures (take c.loop-item.item-index c.args.items.now) (sym c.loop-item.invariant.count)) in
-    let count = sum_by_more signals_made c.args.items.now c.loop-item.item-index c.item-item.result c.loop-item-test.true in
-    record {
-      written = sends_record _ _ _ text c.args.items.now c.loop-item.item-index c.item-item.result _ _ _ c.loop-item-test.true c.loop-item.invariant.written here;
-      count = omega (arith, count, c.signals_made-signal.ensures, ap signals_made c.item-item.is);
-    }
+pub loop-place-preserved : goal.loop-place-preserved
+loop-place-preserved g c =
+    let text = λ (p : Place). flat_map (signal_text c.args.store.now.shape (unwrap_or c.args.store.now.box []) c.args.brief) (names_at c.args.items.now p) in
+    sends_next _ _ _ text c.args.places.now c.loop-place.place-index _ _ _ _ c.loop-place-test.true c.loop-place.invariant c.in_ok-write_signal_at.ensures

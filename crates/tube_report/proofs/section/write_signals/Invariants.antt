@@ -1,14 +1,12 @@
-use Rattle.std.proofs.Common.{◌≡◌, [], take, Ok, flat_map, unwrap_or}
-use Rattle.mission_items.specs.Made.{signals_in}
-use Rattle.mission_items.specs.Names.{declared}
+use Rattle.std.proofs.Common.{[], take, Ok, flat_map, unwrap_or}
 use Rattle.tube_io.specs.Sends.{Sends}
 use Rattle.tube_io.specs.declared.whole.WriteFault.{WriteFault}
+use Rattle.tube_report.specs.Places.{names_at}
 use Rattle.tube_report.specs.Sections.{signal_text}
+use Rattle.tube_report.specs.declared.listed.Place.{Place}
 use Rattle.tube_report.proofs.section.write_signals.Given as goal
 
--- what the records so far declare was written, and their signals were counted
-abbrev pub invariant-loop-item : goal.invariant-loop-item
-invariant-loop-item g l = record {
-  written : Sends {T = Unit {0}} {E = WriteFault} g.K.Sink.written g.K.Sink.flushed g.K.Sink.faults (flat_map (signal_text l.store.shape (unwrap_or l.store.box []) l.brief) (declared (take l.item-index l.items))) l.fn.sink l.sink (Ok tt);
-  count : l.signal ≡ signals_in (take l.item-index l.items);
-}
+-- what the records at the places so far declare was written
+abbrev pub invariant-loop-place : goal.invariant-loop-place
+invariant-loop-place g l = Sends {T = Unit {0}} {E = WriteFault} g.K.Sink.written g.K.Sink.flushed g.K.Sink.faults
+    (flat_map (λ (p : Place). flat_map (signal_text l.store.shape (unwrap_or l.store.box []) l.brief) (names_at l.items p)) (take l.place-index l.places)) l.fn.sink l.sink (Ok tt)
