@@ -1,15 +1,15 @@
 //! Runs over sources and sinks that give and take little a call, and of which single calls fail. Expected bytes were worked out from the
 //! formulas, and none was taken from the program. Worked missions stand in `tests/reports`.
 
-ghost use Rattle.std.specs.Prelude.{◌≡◌, ◌<◌};
+ghost use Rattle.std.specs.Prelude.{◌<◌};
 
+use crate::run_counted;
 use cli_words::Words;
-use codac_run::{Status, run};
+use codac_run::Status;
 use std::alloc::Global;
 use std::marker::Brand;
-use std::sync::ledger::{Blank, Ledger};
+use std::sync::ledger::Blank;
 use std::test::Fail;
-use step_count::Steps;
 use tube_io::{MemSink, MemSource};
 
 // Out and back along a line in two sections, and the question for places that were left two ticks ago.
@@ -18,33 +18,6 @@ const LOG: &[u8] =
 
 const REPORT: &[u8] =
     b"section 1 settled\nbrief x 0 2 7\nbrief y 0 0 0\nend 1\nsection 2 settled\nbrief x 0 2 4\nbrief y 0 0 0\nend 2\nloops 1 sets 1\nset 1 pairs 2 a 0 1 b 3 4 proved sure 0 4\ndone 1\n";
-
-// A run with a new counter of steps.
-fn counted<L: Ledger>(
-    blank: Blank,
-    alloc: Global,
-    line: &str,
-    log: &[u8],
-    most: usize,
-    read_fails: &[u64],
-    write_fails: &[u64],
-) -> Result<(Status, Vec<u8>), Fail>
-    requires name { blank.name ≡ L.name }
-    requires parts { blank.parts ≡ L.parts }
-    requires some { 0 < L.parts }
-    requires most { 0 < most }
-{
-    let mut words = Words::new(alloc);
-    for word in line.split(' ') {
-        words.push(alloc, word)?;
-    }
-    let bytes = Vec::from_slice(alloc, log)?;
-    let mut source = MemSource::new(bytes, most, Vec::from_slice(alloc, read_fails)?);
-    let mut sink = MemSink::<1000>::new(most, Vec::from_slice(alloc, write_fails)?);
-    let mut steps = Steps::<L>::new(blank);
-    let ended = run(alloc, &words, &mut source, &mut sink, &mut steps);
-    Ok((ended.status, Vec::from_slice(alloc, sink.bytes())?))
-}
 
 // The status and the bytes of a run over ends that give and take at most so many bytes a call, of which the calls with these numbers fail.
 fn ran(
@@ -57,15 +30,15 @@ fn ran(
 ) -> Result<(Status, Vec<u8>), Fail>
     requires { 0 < most }
 {
-    counted::<Brand>(
-        Blank::new(1),
-        alloc,
-        line,
-        log,
-        most,
-        read_fails,
-        write_fails,
-    )
+    let mut words = Words::new(alloc);
+    for word in line.split(' ') {
+        words.push(alloc, word)?;
+    }
+    let bytes = Vec::from_slice(alloc, log)?;
+    let mut source = MemSource::new(bytes, most, Vec::from_slice(alloc, read_fails)?);
+    let mut sink = MemSink::<1000>::new(most, Vec::from_slice(alloc, write_fails)?);
+    let ended = run_counted::<_, _, Brand>(alloc, &words, &mut source, &mut sink, Blank::new(1));
+    Ok((ended.status, Vec::from_slice(alloc, sink.bytes())?))
 }
 
 // The log is read in six calls of 20 bytes, and its end in a seventh; from there on no call is made.

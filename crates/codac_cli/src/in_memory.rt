@@ -13,29 +13,29 @@ use std::test::Fail;
 use step_count::Steps;
 use tube_io::SureSink;
 
-// A run with a new counter of steps.
-fn counted<L: Ledger>(
-    blank: Blank,
+// A run in memory with a new counter of steps.
+fn run_counted<L: Ledger>(
     alloc: Global,
-    line: &str,
-    log: &[u8],
-) -> Result<(Ended, SureSink<200>), Fail>
+    words: &Words,
+    log: Vec<u8>,
+    blank: Blank,
+) -> (Ended, SureSink<200>)
     requires name { blank.name ≡ L.name }
     requires parts { blank.parts ≡ L.parts }
     requires some { 0 < L.parts }
 {
-    let mut words = Words::new(alloc);
-    for word in line.split(' ') {
-        words.push(alloc, word)?;
-    }
     let mut steps = Steps::<L>::new(blank);
-    let bytes = Vec::from_slice(alloc, log)?;
-    Ok(run_in_memory::<200, L>(alloc, &words, bytes, 4096, &mut steps))
+    run_in_memory::<200, L>(alloc, words, log, 4096, &mut steps)
 }
 
 // What a run leaves, with a sink of 200 bytes.
 fn ran(alloc: Global, line: &str, log: &[u8]) -> Result<(Ended, SureSink<200>), Fail> {
-    counted::<Brand>(Blank::new(1), alloc, line, log)
+    let mut words = Words::new(alloc);
+    for word in line.split(' ') {
+        words.push(alloc, word)?;
+    }
+    let bytes = Vec::from_slice(alloc, log)?;
+    Ok(run_counted::<Brand>(alloc, &words, bytes, Blank::new(1)))
 }
 
 // The second of three sections is spent: five cells of width 2,000 and one contractor that narrows, the third.

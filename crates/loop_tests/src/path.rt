@@ -14,6 +14,7 @@ use std::sync::ledger::{Blank, Ledger};
 use std::test::Fail;
 use step_count::Steps;
 use tplane_paver::{components, pave};
+use tube_io::NoMemory;
 use tube_store::{SignalId, Store};
 
 // x, y, and what they gain to the next tick.
@@ -104,28 +105,47 @@ fn are_within(cells: &[(u32, u32)], last: u32) -> bool
     cells.iter().all(|c| c.0 < last && c.1 < last)
 }
 
+// How many corners the boundary of cells has in a store, and the degree of their labels; none where a corner has no label, the store is
+// empty or lacks a signal, or the cells don't rise or end at its last tick.
+fn labelled(
+    alloc: Global,
+    cells: &[(u32, u32)],
+    store: &Store,
+    q: &Query,
+    rates: (SignalId, SignalId),
+) -> Result<Option<(usize, Option<i64>)>, NoMemory> {
+    let count = store.signals();
+    let named = q.x.0 < count && q.y.0 < count && rates.0.0 < count && rates.1.0 < count;
+    if store.is_empty() || !named || !is_rising(cells) {
+        return Ok(None);
+    }
+    if !are_within(cells, store.grid().ticks()) || !are_within(cells, 100_000) {
+        return Ok(None);
+    }
+    let d1 = step_bound(cells, store, q.x, &[rates.0]);
+    let d2 = step_bound(cells, store, q.y, &[rates.1]);
+    match labels_of(alloc, cells, store, q, d1, d2)? {
+        Some(labels) => Ok(Some((labels.len(), check_cells(cells, &labels)))),
+        None => Ok(None),
+    }
+}
+
 // Both step bounds are 10, by the rates; 36 cells have 24 corners on their boundary, whose labels turn once, against the order of the sides.
 #[test]
 fn a_path_that_crosses_itself(rt: HostRuntime) -> Result<(), Fail> {
     let store = store_of_the_path(rt.alloc())?;
-    let (x, y) = (SignalId(0), SignalId(1));
-    let (radius, gap, norm) = (10, 8, Norm::Maximum);
     let query = Query {
-        x,
-        y,
-        radius,
-        gap,
-        norm,
+        x: SignalId(0),
+        y: SignalId(1),
+        radius: 10,
+        gap: 8,
+        norm: Norm::Maximum,
     };
     assert!(rt; !store.is_empty() && store.signals() == 4);
     let cells = cells_of::<Brand>(Blank::new(1), rt.alloc(), &store, &query)?;
     assert_eq!(rt; cells.len(), 36);
-    assert!(rt; is_rising(&cells) && are_within(&cells, 24) && store.grid().ticks() == 24);
-    let east = step_bound(&cells, &store, x, &[SignalId(2)]);
-    let north = step_bound(&cells, &store, y, &[SignalId(3)]);
-    assert_eq!(rt; (east, north), (10, 10));
-    let labels = labels_of(rt.alloc(), &cells, &store, &query, east, north)?.ok_or("labels")?;
-    assert_eq!(rt; labels.len(), 24);
-    assert_eq!(rt; check_cells(&cells, &labels), Some(-1));
+    let rates = (SignalId(2), SignalId(3));
+    let found = labelled(rt.alloc(), &cells, &store, &query, rates)?;
+    assert_eq!(rt; found, Some((24, Some(-1))));
     Ok(())
 }
