@@ -1,4 +1,4 @@
 use Rattle.firing_bench.proofs.main.Given as goal
 
 abbrev pub ghosts-fired : goal.ghosts-fired
-ghosts-fired g a = record { name = a.blank.name; parts = a.blank.parts }
+ghosts-fired a = record { name = a.blank.name; parts = a.blank.parts }
