@@ -1,0 +1,4 @@
+pub mod Coverages
+pub mod Texts
+pub mod Writing
+pub mod Laws
