@@ -3,7 +3,8 @@
 
 Each mission is made of a number, so that it can be made again: `examples/missions.py` writes all of them, byte for byte.
 NAME.truth has a line 'SIGNAL TICK VALUE' for each signal and tick, and a line 'VARIABLE - VALUE' for each named variable. Where a mission
-asks for loops, NAME.revisits has a line 'QUERY A B' for each pair of ticks at which the robot truly came back, and NAME.words the words.
+asks for loops, NAME.revisits has a line 'QUERY A B' for each pair of ticks at which the robot truly came back, and NAME.words the words. Where
+it asks for the area, NAME.seen has lines 'QUERY Y X1 X2': the places of a lattice with this y and an x from X1 to X2 that were truly seen.
 """
 import math
 import os
@@ -29,7 +30,7 @@ class Mission:
         self.name, self.ticks, self.version = name, ticks, version
         self.lines = ["# " + line for line in title] + [f"mission,{version},{ticks},{width}"]
         self.signals, self.variables, self.queries = {}, {}, []
-        self.words = "loops"
+        self.words, self.step = "loops", None
 
     def add(self, *fields):
         self.lines.append(",".join(str(field) for field in fields))
@@ -68,6 +69,22 @@ class Mission:
                     if self.is_near(xs[b] - xs[a], ys[b] - ys[a], radius):
                         yield number, a, b
 
+    def ask_area(self, step):
+        """Has the mission run for the area that is seen, over a lattice with a step."""
+        self.words, self.step = f"area --step {step}", step
+
+    def seen(self):
+        """The runs of neighbouring places of each row of the lattice that the sensor of each query truly saw."""
+        for number, (x, y, radius, _) in enumerate(self.queries, 1):
+            path = list(zip(self.signals[x], self.signals[y]))
+            for q in multiples(self.step, min(self.signals[y]) - radius, max(self.signals[y]) + radius):
+                row = multiples(self.step, min(self.signals[x]) - radius, max(self.signals[x]) + radius)
+                places = [p for p in row if any(self.is_near(px - p, py - q, radius) for px, py in path)]
+                firsts = [p for p in places if p - self.step not in places]
+                lasts = [p for p in places if p + self.step not in places]
+                for run in zip(firsts, lasts):
+                    yield number, q, *run
+
     def write(self):
         with open(os.path.join(HERE, self.name + ".log"), "w") as log:
             log.writelines(line + "\n" for line in self.lines)
@@ -78,9 +95,9 @@ class Mission:
             for name, value in self.variables.items():
                 truth.write(f"{name} - {value}\n")
         if self.queries:
-            with open(os.path.join(HERE, self.name + ".revisits"), "w") as revisits:
-                for pair in self.revisits():
-                    revisits.write("{} {} {}\n".format(*pair))
+            kind, found = ("seen", self.seen()) if self.step else ("revisits", self.revisits())
+            with open(os.path.join(HERE, f"{self.name}.{kind}"), "w") as file:
+                file.writelines(" ".join(map(str, one)) + "\n" for one in found)
             with open(os.path.join(HERE, self.name + ".words"), "w") as words:
                 words.write(self.words + "\n")
 
@@ -93,6 +110,11 @@ def walk(draws, ticks, every, speed, start=0):
     for tick in range(ticks):
         positions.append(positions[-1] + rates[tick])
     return rates, positions
+
+
+def multiples(step, lo, hi):
+    """The multiples of a step from the one number to the other."""
+    return range(-(-lo // step) * step, hi + 1, step)
 
 
 def ring(x, y, bx, by, error):
@@ -300,6 +322,17 @@ def near_miss():
     mission.write()
 
 
+def missed_strip():
+    """A survey in legs, of which one is left out."""
+    parts = [(8, 20, 0), (3, 0, 20), (8, -20, 0), (6, 0, 20), (8, 20, 0)]
+    ticks = sum(count for count, _, _ in parts)
+    mission = Mission("missed_strip", ticks, 2, ["A lawn-mower survey with a leg left out: what did a sensor that sees 40 millimetres around surely see, and what not?"], version=2)
+    path(mission, parts, 500, 3, 4, Draws(19))
+    mission.revisit("x", "y", 40, 1)
+    mission.ask_area(10)
+    mission.write()
+
+
 def pcg_words(seed, count):
     """Words of the generator PCG32 (XSH RR 64/32), whose seed of 16 bytes is made of a number by four words of another one."""
     def turned(state):
@@ -349,5 +382,6 @@ if __name__ == "__main__":
     lawn_mower()
     crossing()
     near_miss()
+    missed_strip()
     demo(7)
     too_far()

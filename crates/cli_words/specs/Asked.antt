@@ -1,5 +1,5 @@
 -- What the words of a command line ask for.
-use Rattle.std.specs.Prelude.{ℕ, Bool, true, false, List, [], ◌∷◌, Option, Some, None, option_map, option_and_then, unwrap_or, if◌then◌else◌, codes, bytes_eq}
+use Rattle.std.specs.Prelude.{ℕ, ◌≤◌, ◌&&◌, Bool, true, false, List, [], ◌∷◌, Option, Some, None, option_map, option_and_then, unwrap_or, if◌then◌else◌, codes, bytes_eq, nat_le}
 use Rattle.std.specs.Str.Parse.{digits_value, without_leading_plus}
 use Rattle.clap.specs.Faults.{fault_of}
 use Rattle.clap.specs.Kinds.{Kinds}
@@ -19,6 +19,7 @@ mode_of t =
     if bytes_eq t (codes "solve") then Some mode.Solve
     else if bytes_eq t (codes "loops") then Some mode.Loops
     else if bytes_eq t (codes "demo") then Some mode.Demo
+    else if bytes_eq t (codes "area") then Some mode.Area
     else None
 
 -- the order that a text names
@@ -37,16 +38,30 @@ text_at id rows = unwrap_or (first_of id rows) []
 abbrev pub number_in : Text → ℕ
 number_in t = if is_unsigned_in 0 18446744073709551615 t then digits_value 10 (without_leading_plus t) else 0
 
--- what the values of the arguments ask for; None where one names no mode or no order
+-- the greatest step of a lattice that can be asked for, in millimetres
+abbrev pub greatest_step : ℕ
+greatest_step = 1000000000
+
+-- the step that a text names, from 1 to the greatest
+abbrev pub step_of : Text → Option ℕ
+step_of t = if nat_le 1 (number_in t) && nat_le (number_in t) greatest_step then Some (number_in t) else None
+
+-- what the values of the arguments ask for; None where one names no mode, no order or no step
 abbrev pub asked_by : List Row → Option Asked
 asked_by rows =
-    option_and_then (λ m. option_map (λ o. record {
+    option_and_then (λ m. option_and_then (λ o. option_map (λ s. record {
       mode = m;
       budget = number_in (text_at (codes "budget") rows);
       order = o;
       brief = bytes_eq (text_at (codes "brief") rows) (codes "true");
       seed = number_in (text_at (codes "seed") rows);
-    }) (order_of (text_at (codes "order") rows))) (mode_of (text_at (codes "mode") rows))
+      step = s;
+    }) (step_of (text_at (codes "step") rows))) (order_of (text_at (codes "order") rows))) (mode_of (text_at (codes "mode") rows))
+
+-- the step lies from 1 to the greatest
+pub record HasStep (asked : Asked) : Type 0 where
+  pub least : 1 ≤ asked.step
+  pub most : asked.step ≤ greatest_step
 
 abbrev pub is_empty : Kinds → Bool
 is_empty [] = true

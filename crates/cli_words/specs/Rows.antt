@@ -7,7 +7,7 @@ use Rattle.cli_words.specs.declared.answer.OrderWord.TheVariants as order
 
 -- a mode with no option
 abbrev pub plain : Mode → Asked
-plain m = record { mode = m; budget = 1000000000000000000; order = order.Fifo; brief = false; seed = 1 }
+plain m = record { mode = m; budget = 1000000000000000000; order = order.Fifo; brief = false; seed = 1; step = 1000 }
 
 -- these words ask for this
 abbrev pub AsksFor : List (List ℕ) → Asked → Type 0

@@ -33,10 +33,18 @@ seed_rule = record (new_rule (codes "seed")) {
   parser = Some (Unsigned 0 18446744073709551615);
 }
 
+-- --step N, of 64 bits, and 1000 where it is not given
+abbrev pub step_rule : Rule
+step_rule = record (new_rule (codes "step")) {
+  long = Some (codes "step");
+  defaults = codes "1000" ∷ [];
+  parser = Some (Unsigned 0 18446744073709551615);
+}
+
 -- no help flag and no version flag; the program's name is not among the words
 abbrev pub bare_app : App
 bare_app = on_top (λ s. record s { no_binary_name = true; disable_help_flag = true; disable_version_flag = true }) (new_app (codes "codac_cli"))
 
 -- the whole command
 unfoldable pub command_app : App
-command_app = with_rule (with_rule (with_rule (with_rule (with_rule bare_app mode_rule) budget_rule) order_rule) brief_rule) seed_rule
+command_app = with_rule (with_rule (with_rule (with_rule (with_rule (with_rule bare_app mode_rule) budget_rule) order_rule) brief_rule) seed_rule) step_rule

@@ -1,8 +1,8 @@
 //! What the words ask for.
 
-ghost use Rattle.std.specs.Prelude.{◌≡◌, IfOk, map};
+ghost use Rattle.std.specs.Prelude.{◌≡◌, ◌≤◌, IfOk, IfSome, map};
 ghost use Rattle.clap.specs.Words.{found_of, rows_of};
-ghost use Rattle.cli_words.specs.Asked.{asked_by, asked_of, mode_of, number_in, order_of, text_at};
+ghost use Rattle.cli_words.specs.Asked.{HasStep, asked_by, asked_of, greatest_step, mode_of, number_in, order_of, step_of, text_at};
 
 use crate::command::command;
 use crate::words::Words;
@@ -21,6 +21,8 @@ pub enum Mode {
     Loops,
     /// The same on a log that is made.
     Demo,
+    /// To narrow the cells of a log, print each section, and then chart the area that the sensor of each revisit has seen.
+    Area,
 }
 
 /// The word after `--order`: in which order the contractors fire.
@@ -44,7 +46,12 @@ pub struct Asked {
     pub brief: bool,
     /// The start of the demo's random words; 1 where it is not given.
     pub seed: u64,
+    /// How far the points of a chart lie apart, in millimetres, 1 to 1,000,000,000; 1,000 where it is not given.
+    pub step: u64,
 }
+
+/// The greatest step of a chart, in millimetres.
+const GREATEST_STEP: u64 = 1_000_000_000;
 
 fn mode_of(text: &str) -> Option<Mode>
     ensures { result ≡ mode_of text.now }
@@ -55,6 +62,8 @@ fn mode_of(text: &str) -> Option<Mode>
         Some(Mode::Loops)
     } else if text == "demo" {
         Some(Mode::Demo)
+    } else if text == "area" {
+        Some(Mode::Area)
     } else {
         None
     }
@@ -83,6 +92,19 @@ fn number_in(text: &str) -> u64
     }
 }
 
+fn step_of(text: &str) -> Option<u64>
+    ensures value { result ≡ step_of text.now }
+    ensures least { IfSome result (λ step. 1 ≤ step) }
+    ensures most { IfSome result (λ step. step ≤ greatest_step) }
+{
+    let step = number_in(text);
+    if 1 <= step && step <= GREATEST_STEP {
+        Some(step)
+    } else {
+        None
+    }
+}
+
 // The value of an argument that always has one.
 fn text_at<'a>(matches: &ArgMatches<'a>, id: &str) -> &'a str
     ensures { result.now ≡ text_at id.now (rows_of (found_of matches.now)) }
@@ -94,12 +116,16 @@ fn text_at<'a>(matches: &ArgMatches<'a>, id: &str) -> &'a str
 }
 
 fn asked_by(matches: &ArgMatches) -> Option<Asked>
-    ensures { result ≡ asked_by (rows_of (found_of matches.now)) }
+    ensures asked { result ≡ asked_by (rows_of (found_of matches.now)) }
+    ensures step { IfSome result HasStep }
 {
     let Some(mode) = mode_of(text_at(matches, "mode")) else {
         return None;
     };
     let Some(order) = order_of(text_at(matches, "order")) else {
+        return None;
+    };
+    let Some(step) = step_of(text_at(matches, "step")) else {
         return None;
     };
     let budget = number_in(text_at(matches, "budget"));
@@ -111,11 +137,13 @@ fn asked_by(matches: &ArgMatches) -> Option<Asked>
         order,
         brief,
         seed,
+        step,
     })
 }
 
 fn read_texts<S: AsStr>(alloc: Global, texts: &[S]) -> Result<Option<Asked>, NoMemory>
-    ensures { IfOk result (λ asked. asked ≡ asked_of (map S.text texts.now)) }
+    ensures asked { IfOk result (λ asked. asked ≡ asked_of (map S.text texts.now)) }
+    ensures step { IfOk result (λ asked. IfSome asked HasStep) }
 {
     let command = command(alloc)?;
     match command.try_get_matches_from(texts) {
@@ -132,7 +160,8 @@ fn read_texts<S: AsStr>(alloc: Global, texts: &[S]) -> Result<Option<Asked>, NoM
 
 /// Reads the words after the program's name. None exactly where the command refuses them.
 pub fn read_words(alloc: Global, words: &Words) -> Result<Option<Asked>, NoMemory>
-    ensures { IfOk result (λ asked. asked ≡ asked_of words.now) }
+    ensures asked { IfOk result (λ asked. asked ≡ asked_of words.now) }
+    ensures step { IfOk result (λ asked. IfSome asked HasStep) }
 {
     read_texts(alloc, words.as_slice())
 }

@@ -2,7 +2,7 @@
 
 ghost use Rattle.std.specs.Prelude.{◌≡◌, IfOk, false};
 ghost use Rattle.clap.specs.Words.{app_of, rule_of};
-ghost use Rattle.cli_words.specs.Rules.{bare_app, brief_rule, budget_rule, command_app, mode_rule, order_rule, seed_rule};
+ghost use Rattle.cli_words.specs.Rules.{bare_app, brief_rule, budget_rule, command_app, mode_rule, order_rule, seed_rule, step_rule};
 
 use clap::{Arg, ArgAction, Command, value_parser};
 use std::alloc::{AllocError, Global};
@@ -50,6 +50,16 @@ fn seed_arg<'a>(alloc: Global) -> Arg<'a>
         .value_parser(value_parser!(u64))
 }
 
+fn step_arg<'a>(alloc: Global) -> Arg<'a>
+    ensures rule { rule_of result ≡ step_rule }
+    ensures local { result.global ≡ false }
+{
+    Arg::new(alloc, "step")
+        .long("step")
+        .default_value("1000")
+        .value_parser(value_parser!(u64))
+}
+
 fn bare_command<'a>(alloc: Global) -> Command<'a>
     ensures { app_of result ≡ bare_app }
 {
@@ -69,5 +79,6 @@ pub fn command<'a>(alloc: Global) -> Result<Command<'a>, AllocError>
     let with_order = with_budget.arg(order_arg(alloc))?;
     let with_brief = with_order.arg(brief_arg(alloc))?;
     let with_seed = with_brief.arg(seed_arg(alloc))?;
-    Ok(with_seed)
+    let with_step = with_seed.arg(step_arg(alloc))?;
+    Ok(with_step)
 }

@@ -1,6 +1,6 @@
 //! The words of the command line, read by one simple command of `clap`, and the line that says which they are.
 //!
-//! The command is `codac_cli MODE [--budget N] [--order ORDER] [--brief] [--seed N]`, with no help and no version flag.
+//! The command is `codac_cli MODE [--budget N] [--order ORDER] [--brief] [--seed N] [--step N]`, with no help and no version flag.
 #![tactic(auto)]
 
 pub mod answer;

@@ -17,8 +17,16 @@ fn asked(alloc: Global, line: &str) -> Result<Option<Asked>, NoMemory> {
 
 #[test]
 fn taken_lines(rt: HostRuntime) -> Result<(), NoMemory> {
-    for (line, mode, budget, order, brief, seed) in [
-        ("solve", Mode::Solve, GREATEST, OrderWord::Fifo, false, 1),
+    for (line, mode, budget, order, brief, seed, step) in [
+        (
+            "solve",
+            Mode::Solve,
+            GREATEST,
+            OrderWord::Fifo,
+            false,
+            1,
+            1000,
+        ),
         (
             "loops --brief",
             Mode::Loops,
@@ -26,6 +34,7 @@ fn taken_lines(rt: HostRuntime) -> Result<(), NoMemory> {
             OrderWord::Fifo,
             true,
             1,
+            1000,
         ),
         (
             "demo --seed=+7",
@@ -34,6 +43,7 @@ fn taken_lines(rt: HostRuntime) -> Result<(), NoMemory> {
             OrderWord::Fifo,
             false,
             7,
+            1000,
         ),
         (
             "--order rank --budget 0 -- solve",
@@ -42,6 +52,7 @@ fn taken_lines(rt: HostRuntime) -> Result<(), NoMemory> {
             OrderWord::Rank,
             false,
             1,
+            1000,
         ),
         (
             "--brief solve --order=lifo --budget +5",
@@ -50,6 +61,16 @@ fn taken_lines(rt: HostRuntime) -> Result<(), NoMemory> {
             OrderWord::Lifo,
             true,
             1,
+            1000,
+        ),
+        (
+            "area --step 25",
+            Mode::Area,
+            GREATEST,
+            OrderWord::Fifo,
+            false,
+            1,
+            25,
         ),
     ] {
         let want = Asked {
@@ -58,6 +79,7 @@ fn taken_lines(rt: HostRuntime) -> Result<(), NoMemory> {
             order,
             brief,
             seed,
+            step,
         };
         assert_eq!(rt; asked(rt.alloc(), line)?, Some(want), "{line}");
     }
@@ -75,6 +97,8 @@ fn refused_lines(rt: HostRuntime) -> Result<(), NoMemory> {
         "solve --order random",
         "solve --budget 1000000000000000001",
         "solve --budget 1e3",
+        "area --step 0",
+        "area --step 1000000001",
         "demo --seed -1",
         "demo --seed 1 --seed 1",
         "solve --brief --brief",
@@ -91,9 +115,9 @@ fn refused_lines(rt: HostRuntime) -> Result<(), NoMemory> {
 
 #[test]
 fn line_of_usage(rt: HostRuntime) {
-    let mut sink = SureSink::<100>::new();
+    let mut sink = SureSink::<120>::new();
     assert_eq!(rt; write_usage(&mut sink), Ok(()));
     let want =
-        b"usage: codac_cli solve|loops|demo [--budget N] [--order fifo|lifo|rank] [--brief] [--seed N]\n";
+        b"usage: codac_cli solve|loops|demo|area [--budget N] [--order fifo|lifo|rank] [--brief] [--seed N] [--step N]\n";
     assert_eq!(rt; sink.bytes(), want.as_slice());
 }

@@ -13,6 +13,6 @@ pub fn write_usage<K: Sink>(sink: &mut K) -> Result<(), WriteFault>
 {
     write_all(
         sink,
-        b"usage: codac_cli solve|loops|demo [--budget N] [--order fifo|lifo|rank] [--brief] [--seed N]\n",
+        b"usage: codac_cli solve|loops|demo|area [--budget N] [--order fifo|lifo|rank] [--brief] [--seed N] [--step N]\n",
     )
 }

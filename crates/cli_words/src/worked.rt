@@ -12,6 +12,8 @@ pub fn asked_rows()
         (record (plain mode.Loops) { order = order.Lifo; brief = true }) }
     ensures demo { AsksFor (codes "--seed" ∷ codes "7" ∷ codes "demo" ∷ []) (record (plain mode.Demo) { seed = 7 }) }
 
+    ensures area { AsksFor (codes "area" ∷ codes "--step" ∷ codes "25" ∷ []) (record (plain mode.Area) { step = 25 }) }
+
     // A value may follow `=`, and may have a plus sign, and a lone `--` may stand before the mode.
     ensures equals { AsksFor (codes "solve" ∷ codes "--budget=5" ∷ []) (record (plain mode.Solve) { budget = 5 }) }
     ensures plus { AsksFor (codes "solve" ∷ codes "--budget" ∷ codes "+5" ∷ []) (record (plain mode.Solve) { budget = 5 }) }
@@ -32,6 +34,8 @@ pub fn refused_rows()
     ensures order { IsRefused (codes "solve" ∷ codes "--order" ∷ codes "FIFO" ∷ []) }
     ensures budget { IsRefused (codes "solve" ∷ codes "--budget" ∷ codes "1000000000000000001" ∷ []) }
     ensures seed { IsRefused (codes "demo" ∷ codes "--seed" ∷ codes "18446744073709551616" ∷ []) }
+    ensures no_step { IsRefused (codes "area" ∷ codes "--step" ∷ codes "0" ∷ []) }
+    ensures wide_step { IsRefused (codes "area" ∷ codes "--step" ∷ codes "1000000001" ∷ []) }
     ensures help { IsRefused (codes "--help" ∷ []) }
 
     // An option again, one cut short, one with no value, and a value that begins with `-`.

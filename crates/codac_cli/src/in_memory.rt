@@ -72,3 +72,20 @@ fn the_net_and_the_sets(rt: HostRuntime) -> Result<(), Fail> {
     assert_eq!(rt; found.as_slice()[0].finding, Finding::Sure(0, 4));
     Ok(())
 }
+
+// A robot that is at 0 in the one tick and somewhere from 2 to 4 in the next, and sees one millimetre far in each coordinate. The map is told,
+// and nothing is handed out beside it.
+#[test]
+fn the_map_of_a_query(rt: HostRuntime) -> Result<(), Fail> {
+    let log =
+        b"mission,1,1,1\nsignal,x,0,4\nsignal,y,0,0\nat,x,0,0,0\nat,x,1,2,4\nrevisit,x,y,1,1\n";
+    let (ended, sink) = ran(rt.alloc(), "area --step 1 --brief", log)?;
+    assert!(rt; ended.status == Status::Settled && ended.spent.is_none());
+    assert!(rt; ended.net.is_none() && ended.found.is_none());
+    assert_eq!(rt;
+        sink.bytes(),
+        b"section 1 settled\nbrief x 0 4 6\nbrief y 0 0 0\nend 1\narea 1 columns 7 rows 3 west -1 south -1 never 0 seen 12 open 9\ndone 1\n".as_slice()
+    );
+    assert_eq!(rt; sink.flushed_len(), sink.bytes().len());
+    Ok(())
+}

@@ -1,6 +1,5 @@
 -- How a run over a log that was heard or made ends, and with which statuses.
-use Rattle.std.proofs.Common.{◌≡◌, ℕ, ◌<◌, ◌≤◌, ◌⊎◌, inl, inr, Bool, true, nat_lt, List, [], ◌∷◌, ◌++◌, Option, Some, None, Result, Ok, Err, IfSome, arith, refl, sym, ap, subst, ◌∙◌, length, take, length-take-le}
-use Rattle.tube_spec.specs.Box.{measure_of}
+use Rattle.std.proofs.Common.{◌≡◌, ℕ, ◌<◌, ◌⊎◌, inl, inr, Bool, true, nat_lt, List, [], ◌∷◌, ◌++◌, Option, Some, None, Result, Ok, Err, IfSome, arith, refl, sym, ap, subst, ◌∙◌, length, take, length-take-le}
 use Rattle.std.specs.Prelude.{if◌then◌else◌}
 use Rattle.std.proofs.lemmas.Bool.Decides.{nat_tests}
 use Rattle.csv_rows.specs.Records.{records_of}
@@ -13,7 +12,7 @@ use Rattle.ctc_network.specs.declared.answers.Settled.TheVariants as answer
 use Rattle.log_fields.specs.declared.fault.Cause.TheVariants as cause
 use Rattle.tube_io.specs.Causes.{Rose}
 use Rattle.tube_io.specs.Sends.{AppendsPrefix}
-use Rattle.section_report.specs.Sections.{Section, IsSectionOf, AreSectionsTo, StartsBelow}
+use Rattle.section_report.specs.Sections.{Section, IsSectionOf, StartsBelow}
 use Rattle.section_report.specs.Texts.{verdict_of}
 use Rattle.section_report.proofs.Ends.{at-last}
 use Rattle.codac_run.specs.declared.plan.Origin.{Origin}
@@ -23,9 +22,8 @@ use Rattle.codac_run.specs.declared.ended.Ended.{Ended}
 use Rattle.codac_run.specs.declared.ended.Status.{Status}
 use Rattle.codac_run.specs.declared.ended.Status.TheVariants as status
 use Rattle.codac_run.specs.Hearing.{Hears, TellsLowest, judged, log_heard}
-use Rattle.codac_run.specs.Reports.{log_from, log_planned, status_of, run_text, Stops, Writes, IsBare, IsBeginning, IsShorter, RunsOut, RunsOutAfter, Reports, EndsBy, EndsFrom, Ends}
-use Rattle.codac_run.specs.Statuses.{Wrong, Accepted, Refused, Untold, Standing, standing_by, standing_of, IsReported, IsStopped, CanEnd, IsWholeOrNoMemory}
-use Rattle.codac_run.proofs.Handing.{spent-small}
+use Rattle.codac_run.specs.Reports.{log_from, log_planned, status_of, run_text, Stops, IsShorter, EndsBy, EndsFrom, Ends}
+use Rattle.codac_run.specs.Statuses.{Wrong, Accepted, Refused, Untold, Standing, standing_by, standing_of, IsReported, CanEnd, IsWholeOrNoMemory}
 
 -- over a log that was heard
 pub over-heard : (plan : Plan) (left rest old new : Option (List ℕ)) (flushed : Option ℕ) (e : Ended) (used : ℕ) (told : Option (List ℕ)) (log : Result Mission (List ℕ)) → Hears 67108864 left rest told → TellsLowest told → log_heard told ≡ log

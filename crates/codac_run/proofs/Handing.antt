@@ -26,11 +26,11 @@ use Rattle.codac_run.specs.declared.ended.Status.TheVariants as status
 use Rattle.codac_run.specs.declared.ended.SpentAt.{SpentAt}
 use Rattle.codac_run.specs.declared.ended.Ended.{Ended}
 use Rattle.loop_report.specs.declared.found.Found.{Found}
-use Rattle.mission_loops.specs.Texts.{last_told}
 use Rattle.mission_loops.specs.declared.writing.Findings.{Findings}
 use Rattle.codac_run.specs.Reports.{IsSpent, HandsSpent, IsSettledNet, HandsNet, HandsWhere, HandsNetWhere, HandsFound, IsSettledOnly, status_of, Writes, Stops, IsBare, run_text, RunsOut, RunsOutAfter, Reports}
 use Rattle.mission_loops.specs.Cost.{TakesAtMost}
-use Rattle.codac_run.specs.Tails.{told_queries, AreToldOf, AreAllTold, AreStepsOf}
+use Rattle.codac_run.specs.Told.{last_sets}
+use Rattle.codac_run.specs.Tails.{paved_queries, AreToldOf, AreAllTold, AreStepsOf}
 use Rattle.codac_run.specs.declared.plan.Plan.{Plan}
 use Rattle.codac_run.specs.Telling.{AreToldAfter, AreCutShortAfter}
 
@@ -147,7 +147,7 @@ hands-found false status.NoMemory last told handed same h = h
 module _ {K : Type 0} (written : K → Option (List ℕ)) (flushed : K → Option ℕ) (faults : K → ℕ) (m : Mission) (plan : Plan) (old mid : K)
     (net : NetState AnyCtc) (section : LastSection) (e : Ended) (before middle now : ℕ) (is : IsMission m)
     (r : IsReported written flushed faults m plan.sections old mid before middle net section)
-    (steps : TakesAtMost net.store.shape net.store.box (told_queries plan.tail (take section.upto m.items)) middle now)
+    (steps : TakesAtMost net.store.shape net.store.box (paved_queries plan.tail (take section.upto m.items)) middle now)
     (spent : HandsWhere section.end.answer section.number section.end.began net e.spent) where
   answered : section.end.answer ≡ r.last.answer
   answered = sym (ap (λ (d : Section). d.answer) r.here)
@@ -160,13 +160,13 @@ module _ {K : Type 0} (written : K → Option (List ℕ)) (flushed : K → Optio
 
   all-steps : AreStepsOf m plan (r.earlier ++ r.last ∷ []) r.last (now - before)
   all-steps d root =
-      let qs = told_queries plan.tail (take r.last.upto m.items) in
+      let qs = paved_queries plan.tail (take r.last.upto m.items) in
       let upto : section.upto ≡ r.last.upto = sym (ap (λ (d : Section). d.upto) r.here) in
       let box : net.store.box ≡ r.last.box = sym (ap (λ (d : Section). d.box) r.here) in
       let told =
       subst (λ (b : Option (List Span)). TakesAtMost (shape_by m.cuts (take r.last.upto m.items)) b qs middle now) box
       (subst (λ (s : Shape). TakesAtMost s net.store.box qs middle now) r.holds.shape
-      (subst (λ (n : ℕ). TakesAtMost net.store.shape net.store.box (told_queries plan.tail (take n m.items)) middle now) upto steps)) in
+      (subst (λ (n : ℕ). TakesAtMost net.store.shape net.store.box (paved_queries plan.tail (take n m.items)) middle now) upto steps)) in
       omega (arith, told d root, r.cost)
 
   -- where all was written
@@ -212,8 +212,8 @@ module _ {K : Type 0} (written : K → Option (List ℕ)) (flushed : K → Optio
       all = λ ok. (all-there (λ fault. ok (same ∙ fault)), all-told (λ fault. ok (same ∙ fault)));
       spent = hands-last;
       net = subst (λ (u : Status). HandsNet plan.hands_out m r.last.box u e.net) (sym same) (hands-net plan.hands_out m r.last.box s net e.net net-of-all handed);
-      found = subst (λ (u : Status). HandsFound plan.hands_out u (last_told t.told) e.found) (sym same)
-          (hands-found plan.hands_out s findings.last (last_told t.told) e.found (λ settled. all-of findings.written t.last (λ err. no-fault settled (told err))) found);
+      found = subst (λ (u : Status). HandsFound plan.hands_out u (last_sets t.told) e.found) (sym same)
+          (hands-found plan.hands_out s findings.last (last_sets t.told) e.found (λ settled. all-of findings.written t.last (λ err. no-fault settled (told err))) found);
       cost = all-steps;
     }
 

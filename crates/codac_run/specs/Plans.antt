@@ -1,5 +1,5 @@
 -- What a run does, as the words ask for it: one line for each mode. No other definition asks for the mode.
-use Rattle.std.specs.Prelude.{ℕ, true, List, Option, option_map}
+use Rattle.std.specs.Prelude.{ℕ, true, false, List, Option, option_map}
 use Rattle.ctc_network.specs.declared.answers.Order.{Order}
 use Rattle.ctc_network.specs.declared.answers.Order.TheVariants as order
 use Rattle.cli_words.specs.Asked.{asked_of}
@@ -28,11 +28,12 @@ plan_with asked from told = record {
   hands_out = true;
 }
 
--- The table of modes. A demo is always told in brief.
+-- The table of modes. A demo is always told in brief, and after a chart of areas no net is handed out.
 abbrev pub plan_by : Mode → Asked → Plan
 plan_by mode.Solve asked = plan_with asked origin.Source tail.Nothing
 plan_by mode.Loops asked = plan_with asked origin.Source tail.Findings
 plan_by mode.Demo asked = plan_with (record asked { brief = true }) (origin.Demo asked.seed) tail.Findings
+plan_by mode.Area asked = record (plan_with asked origin.Source (tail.Areas asked.step)) { hands_out = false }
 
 -- the plan of what the words ask for
 abbrev pub plan_of : Asked → Plan

@@ -12,7 +12,6 @@ use Rattle.ctc_network.specs.declared.answers.Settled.TheVariants as answer
 use Rattle.loop_report.specs.declared.found.Found.{Found}
 use Rattle.mission_items.specs.declared.mission.Mission.{Mission}
 use Rattle.mission_items.specs.Valid.{IsMission}
-use Rattle.mission_loops.specs.Texts.{findings_text, last_told}
 use Rattle.mission_net.specs.Building.{IsNetOf, IsSpentAs}
 use Rattle.mission_net.specs.Records.{shape_by}
 use Rattle.any_ctc.specs.declared.AnyCtc.{AnyCtc}
@@ -24,6 +23,7 @@ use Rattle.tube_report.specs.declared.section.Verdict.TheVariants as verdict
 use Rattle.demo_spec.specs.Mission.{demo_mission}
 use Rattle.mission_log.specs.Log.{log_of}
 use Rattle.codac_run.specs.Hearing.{Hears, TellsLowest, judged, log_heard}
+use Rattle.codac_run.specs.Told.{Told, count_told, told_text, last_sets}
 use Rattle.codac_run.specs.Tails.{AreToldOf, AreAllTold, AreStepsOf}
 use Rattle.codac_run.specs.declared.plan.Origin.{Origin}
 use Rattle.codac_run.specs.declared.plan.Origin.TheVariants as origin
@@ -109,8 +109,8 @@ Writes text planned old new flushed ended =
     ((ended ≡ planned) × Appends old new text × AllFlushed flushed new) ⊎ ((ended ≡ status.WriteFault) × AppendsPrefix old new text)
 
 -- the texts of sections, and of what is told of queries
-abbrev pub run_text : Mission → Plan → List Section → List (Option (List Found)) → List ℕ
-run_text m plan sections told = report_text m plan.sections.brief sections ++ findings_text plan.sections.brief told
+abbrev pub run_text : Mission → Plan → List Section → Told → List ℕ
+run_text m plan sections told = report_text m plan.sections.brief sections ++ told_text plan.sections.brief told
 
 -- nothing is handed out
 pub record IsBare (e : Ended) : Type 0 where
@@ -136,14 +136,14 @@ pub record Reports (m : Mission) (plan : Plan) (old new : Option (List ℕ)) (fl
   pub earlier : List Section
   pub last : Section
   pub sections : AreSectionsTo m plan.sections.budget earlier last
-  pub told : List (Option (List Found))
+  pub told : Told
   pub findings : AreToldOf m plan last told
-  pub told_last : (told ≡ []) ⊎ AreAll m earlier last
+  pub told_last : (count_told told ≡ 0) ⊎ AreAll m earlier last
   pub writes : Writes (run_text m plan (earlier ++ last ∷ []) told) (status_of (verdict_of last.answer)) old new flushed e.status
   pub all : (e.status ≡ status.WriteFault → ⊥) → AreAll m earlier last × AreAllTold m plan last told
   pub spent : HandsSpent m plan.sections.budget (length earlier + 1) last last.answer e.spent
   pub net : HandsNet plan.hands_out m last.box e.status e.net
-  pub found : HandsFound plan.hands_out e.status (last_told told) e.found
+  pub found : HandsFound plan.hands_out e.status (last_sets told) e.found
   pub cost : AreStepsOf m plan (earlier ++ last ∷ []) last used
 
 -- What a run over an accepted log begins to write: the texts of its first sections, and after all of them of what is told of the first queries.
@@ -151,9 +151,9 @@ pub record IsBeginning (m : Mission) (plan : Plan) (text : List ℕ) : Type 0 wh
   pub earlier : List Section
   pub last : Section
   pub sections : AreSectionsTo m plan.sections.budget earlier last
-  pub told : List (Option (List Found))
+  pub told : Told
   pub findings : AreToldOf m plan last told
-  pub told_last : (told ≡ []) ⊎ AreAll m earlier last
+  pub told_last : (count_told told ≡ 0) ⊎ AreAll m earlier last
   pub is : text ≡ run_text m plan (earlier ++ last ∷ []) told
 
 -- each of these texts, and so the whole report, is shorter than so many bytes
@@ -179,7 +179,7 @@ pub record RunsOutAfter (m : Mission) (plan : Plan) (old new : Option (List ℕ)
   pub last : Section
   pub sections : AreSectionsTo m plan.sections.budget earlier last
   pub all : AreAll m earlier last
-  pub told : List (Option (List Found))
+  pub told : Told
   pub findings : AreToldOf m plan last told
   pub writes : Appends old new (run_text m plan (earlier ++ last ∷ []) told)
   pub spent : HandsSpent m plan.sections.budget (length earlier + 1) last last.answer e.spent

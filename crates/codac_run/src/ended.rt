@@ -22,7 +22,7 @@ pub enum Status {
     WriteFault = 5,
     /// The report was written up to a section that was spent: the budget ran out first.
     Spent = 6,
-    /// Memory ran out; the sections and findings before were written.
+    /// Memory ran out; the sections before were written, and what is told of the queries before.
     NoMemory = 7,
 }
 
@@ -48,10 +48,10 @@ pub struct Ended {
     pub status: Status,
     /// Where the budget was spent, if it was.
     pub spent: Option<SpentAt>,
-    /// The settled net, where the status is `Settled`.
+    /// The settled net, where the plan hands it out and the status is `Settled`.
     pub net: Option<Net<AnyCtc>>,
-    /// The sets of the last query with what is found of each, where the status is `Settled`, findings were asked for, there is a query and
-    /// the last one is not crowded.
+    /// The sets of the last query with what is found of each, where the plan hands them out, the status is `Settled`, findings were asked
+    /// for, there is a query and the last one is not crowded.
     pub found: Option<FoundSets>,
 }
 

@@ -1,7 +1,9 @@
 //! What a run does, as the words ask for it: one line for each mode. Nothing else in a run asks for the mode.
 
-ghost use Rattle.std.specs.Prelude.{◌≡◌, IfOk};
+ghost use Rattle.std.specs.Prelude.{◌≡◌, IfOk, IfSome};
+ghost use Rattle.cli_words.specs.Asked.{HasStep};
 ghost use Rattle.codac_run.specs.Plans.{order_of, plan_of, plan_with, planned};
+ghost use Rattle.codac_run.specs.Tails.{CanTell};
 
 use cli_words::{Asked, Mode, OrderWord, Words, read_words};
 use ctc_network::Order;
@@ -25,6 +27,8 @@ pub enum Tail {
     Nothing,
     /// What is found of each query over the box of the last section.
     Findings,
+    /// The area that each query's sensor has seen over this box, on a lattice with this step, in millimetres.
+    Areas { step: u64 },
 }
 
 /// What a run does.
@@ -67,11 +71,13 @@ fn run_over(asked: &Asked, origin: Origin, tail: Tail) -> Plan
     }
 }
 
-/// The plan of what the words ask for. A demo is always told in brief.
+/// The plan of what the words ask for. A demo is always told in brief, and after a chart of areas no net is handed out.
 pub fn plan_of(asked: &Asked) -> Plan
-    ensures { result ≡ plan_of asked.now }
+    ensures plan { result ≡ plan_of asked.now }
+    ensures tail { HasStep asked.now → CanTell result.tail }
 {
     let seed = asked.seed;
+    let step = asked.step;
     let in_brief = Asked {
         brief: true,
         ..*asked
@@ -80,12 +86,17 @@ pub fn plan_of(asked: &Asked) -> Plan
         Mode::Solve => run_over(asked, Origin::Source, Tail::Nothing),
         Mode::Loops => run_over(asked, Origin::Source, Tail::Findings),
         Mode::Demo => run_over(&in_brief, Origin::Demo { seed }, Tail::Findings),
+        Mode::Area => Plan {
+            hands_out: false,
+            ..run_over(asked, Origin::Source, Tail::Areas { step })
+        },
     }
 }
 
 /// Reads the plan of a command line; none where its words are wrong.
 pub(crate) fn read_plan(alloc: Global, words: &Words) -> Result<Option<Plan>, NoMemory>
-    ensures { IfOk result (λ plan. plan ≡ planned words.now) }
+    ensures plan { IfOk result (λ plan. plan ≡ planned words.now) }
+    ensures tail { IfOk result (λ plan. IfSome plan (λ p. CanTell p.tail)) }
 {
     match read_words(alloc, words)? {
         Some(asked) => Ok(Some(plan_of(&asked))),

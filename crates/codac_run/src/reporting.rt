@@ -1,11 +1,11 @@
 //! The report of an accepted log: its sections, and what is told of its queries.
 
-ghost use Rattle.std.specs.Prelude.{◌≡◌, ◌-◌, ◌≤◌, ◌⊎◌, ◌&&◌, Ok, IfOk, OnErr, is_ok, length, take};
+ghost use Rattle.std.specs.Prelude.{◌≡◌, ◌-◌, ◌≤◌, ◌⊎◌, None, Ok, IfOk, OnErr, length, pos, take, ◌≤ℤ◌};
 ghost use Rattle.tube_io.specs.Causes.{Rose};
 ghost use Rattle.mission_items.specs.Valid.{IsMission};
 ghost use Rattle.mission_net.specs.Records.{shape_by, Encloses};
 ghost use Rattle.codac_run.specs.Reports.{status_of, Stops, EndsBy, HandsWhere, HandsNetWhere, HandsFound, IsSettledOnly};
-ghost use Rattle.codac_run.specs.Tails.{is_telling, told_queries};
+ghost use Rattle.codac_run.specs.Tails.{paved_queries, CanTell};
 ghost use Rattle.mission_loops.specs.Cost.{TakesAtMost};
 ghost use Rattle.codac_run.specs.Telling.{AreToldAfter, AreCutShortAfter};
 
@@ -13,6 +13,7 @@ use crate::ended::{Ended, SpentAt, Status};
 use crate::ending::finish;
 use crate::plan::{Plan, Tail};
 use ctc_network::{Net, Settled};
+use mission_area::write_areas;
 use mission_items::Mission;
 use mission_loops::{Findings, FoundSets, write_findings};
 use mission_net::AnyCtc;
@@ -20,7 +21,7 @@ use section_report::{LastSection, verdict_of, write_sections};
 use std::alloc::Global;
 use std::sync::ledger::Ledger;
 use step_count::Steps;
-use tube_io::{NoMemory, Sink};
+use tube_io::{NoMemory, Sink, WriteFault};
 use tube_report::Verdict;
 use tube_store::Store;
 
@@ -75,18 +76,17 @@ fn handed(
     }
 }
 
-/// Whether queries are told: the plan tells of them, and the sections were written.
-fn is_told(plan: &Plan, section: &LastSection) -> bool
-    ensures { result ≡ (is_telling plan.now.tail && is_ok section.now.written) }
+/// What writing leaves where no sets are told.
+fn without_sets(written: Result<(), WriteFault>) -> Findings
+    ensures { result ≡ record { last = None; written = written } }
 {
-    match plan.tail {
-        Tail::Nothing => false,
-        Tail::Findings => section.written.is_ok(),
+    Findings {
+        last: None,
+        written,
     }
 }
 
-/// Tells what is found of the queries over the net of the last section and writes it, where the plan tells of them and the sections were
-/// written.
+/// Tells of the queries over the net of the last section what the plan says, and writes it, where the sections were written.
 fn tell<K: Sink, L: Ledger>(
     alloc: Global,
     plan: &Plan,
@@ -96,32 +96,31 @@ fn tell<K: Sink, L: Ledger>(
     sink: &mut K,
     steps: &mut Steps<L>,
 ) -> Result<Findings, NoMemory>
+    requires tail { CanTell plan.now.tail }
     requires mission { IsMission mission.now }
     requires within { section.now.upto ≤ length mission.now.items }
     requires shape { store.now.shape ≡ shape_by mission.now.cuts (take section.now.upto mission.now.items) }
     requires encloses { Encloses mission.now.cuts (take section.now.upto mission.now.items) store.now.box }
     ensures told { IfOk result (λ findings. AreToldAfter K.written K.flushed K.faults mission.now plan.now section.now store.now.box sink.old sink.new findings) }
     ensures cut_short { OnErr result (AreCutShortAfter K.written K.flushed K.faults mission.now plan.now section.now store.now.box sink.old sink.new) }
-    ensures steps { TakesAtMost store.now.shape store.now.box (told_queries plan.now.tail (take section.now.upto mission.now.items)) steps.old steps.new }
+    ensures steps { TakesAtMost store.now.shape store.now.box (paved_queries plan.now.tail (take section.now.upto mission.now.items)) steps.old steps.new }
 {
-    if is_told(plan, section) {
-        return write_findings(
-            alloc,
-            mission,
-            section.upto,
-            store,
-            plan.sections.brief,
-            sink,
-            steps,
-        );
+    if section.written.is_err() {
+        return Ok(without_sets(section.written));
     }
-    Ok(Findings {
-        last: None,
-        written: section.written,
-    })
+    let (upto, brief) = (section.upto, plan.sections.brief);
+    match plan.tail {
+        Tail::Nothing => Ok(without_sets(section.written)),
+        Tail::Findings => write_findings(alloc, mission, upto, store, brief, sink, steps),
+        Tail::Areas { step } => {
+            let step = step as i64;
+            let written = write_areas(alloc, mission, upto, store, step, brief, sink)?;
+            Ok(without_sets(written))
+        }
+    }
 }
 
-/// Settles the sections of a mission one after the other, and writes each; then it tells what is found of the queries, if the plan does.
+/// Settles the sections of a mission one after the other, and writes each; then it tells of the queries what the plan says.
 pub(crate) fn report<K: Sink, L: Ledger>(
     alloc: Global,
     plan: &Plan,
@@ -129,7 +128,8 @@ pub(crate) fn report<K: Sink, L: Ledger>(
     sink: &mut K,
     steps: &mut Steps<L>,
 ) -> Ended
-    requires { IsMission mission.now }
+    requires tail { CanTell plan.now.tail }
+    requires mission { IsMission mission.now }
     ensures ends { Stops Status.NoMemory (K.written sink.old) (K.written sink.new) result (steps.new - steps.old) ⊎ EndsBy (Ok mission.now) plan.now (K.written sink.old) (K.written sink.new) (K.flushed sink.new) result (steps.new - steps.old) }
     ensures failed { result.status ≡ Status.WriteFault → Rose (K.faults sink.old) (K.faults sink.new) }
     ensures unflushed { result.status ≡ Status.WriteFault → K.flushed sink.new ≡ K.flushed sink.old }

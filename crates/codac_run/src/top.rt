@@ -6,6 +6,7 @@ ghost use Rattle.demo_spec.specs.Mission.{demo_mission};
 ghost use Rattle.codac_run.specs.declared.plan.Plan.{Plan};
 ghost use Rattle.codac_run.specs.Plans.{planned};
 ghost use Rattle.codac_run.specs.Reports.{log_planned, IsUnread, Stops, EndsBy, EndsFrom, Ends};
+ghost use Rattle.codac_run.specs.Tails.{CanTell};
 ghost use Rattle.codac_run.specs.Statuses.{standing_of, CanEnd, IsWholeOrNoMemory};
 
 use crate::ended::{Ended, Status};
@@ -30,6 +31,7 @@ fn hear_and_report<S: Source, K: Sink, L: Ledger>(
     sink: &mut K,
     steps: &mut Steps<L>,
 ) -> Ended
+    requires { CanTell plan.now.tail }
     ensures ends { EndsFrom Origin.Source plan.now (S.left source.old) (S.left source.new) (K.written sink.old) (K.written sink.new) (K.flushed sink.new) result (steps.new - steps.old) }
     ensures enough { 2000000000000000 < plan.now.sections.budget → result.status ≡ Status.Spent → ⊥ }
     ensures read { result.status ≡ Status.ReadFault → Rose (S.faults source.old) (S.faults source.new) }
@@ -52,6 +54,7 @@ fn make_and_report<K: Sink, L: Ledger>(
     sink: &mut K,
     steps: &mut Steps<L>,
 ) -> Ended
+    requires { CanTell plan.now.tail }
     ensures ends { Stops Status.NoMemory (K.written sink.old) (K.written sink.new) result (steps.new - steps.old) ⊎ EndsBy (Ok (demo_mission seed)) plan.now (K.written sink.old) (K.written sink.new) (K.flushed sink.new) result (steps.new - steps.old) }
     ensures enough { 2000000000000000 < plan.now.sections.budget → result.status ≡ Status.Spent → ⊥ }
     ensures write { result.status ≡ Status.WriteFault → Rose (K.faults sink.old) (K.faults sink.new) }
@@ -72,6 +75,7 @@ fn follow<S: Source, K: Sink, L: Ledger>(
     sink: &mut K,
     steps: &mut Steps<L>,
 ) -> Ended
+    requires { CanTell plan.now.tail }
     ensures ends { Ends (Some plan.now) (S.left source.old) (S.left source.new) (K.written sink.old) (K.written sink.new) (K.flushed sink.new) result (steps.new - steps.old) }
     ensures enough { 2000000000000000 < plan.now.sections.budget → result.status ≡ Status.Spent → ⊥ }
     ensures read { result.status ≡ Status.ReadFault → Rose (S.faults source.old) (S.faults source.new) }
@@ -113,7 +117,7 @@ fn read_and_follow<S: Source, K: Sink, L: Ledger>(
 /// source is read and judged before anything is written. The records of an accepted log, or those of the demo mission of the seed, are
 /// built into one network, section by section: each section is settled from the box of the one before, in the order and within the budget
 /// that the words ask for, and written. In the modes `loops` and `demo` what is found of the queries over the box of the last of them is
-/// then told and written, query by query. At the end the sink is flushed.
+/// then told and written, query by query, and in the mode `area` the area that each query's sensor has seen. At the end the sink is flushed.
 pub fn run<S: Source, K: Sink, L: Ledger>(
     alloc: Global,
     words: &Words,

@@ -10,4 +10,5 @@ returns c =
     let budget = c.in_ok-with_budget.ensures.shape c.budget_arg.ensures.local ∙ ap₂ with_rule mode c.budget_arg.ensures.rule in
     let order = c.in_ok-with_order.ensures.shape c.order_arg.ensures.local ∙ ap₂ with_rule budget c.order_arg.ensures.rule in
     let brief = c.in_ok-with_brief.ensures.shape c.brief_arg.ensures.local ∙ ap₂ with_rule order c.brief_arg.ensures.rule in
-    c.in_ok-with_seed.ensures.shape c.seed_arg.ensures.local ∙ ap₂ with_rule brief c.seed_arg.ensures.rule
+    let seed = c.in_ok-with_seed.ensures.shape c.seed_arg.ensures.local ∙ ap₂ with_rule brief c.seed_arg.ensures.rule in
+    c.in_ok-with_step.ensures.shape c.step_arg.ensures.local ∙ ap₂ with_rule seed c.step_arg.ensures.rule

@@ -16,6 +16,10 @@ pub returns-clause-demo : goal.returns-clause-demo
 unfolding clap_on_literals command_app asked_of
 returns-clause-demo c = refl
 
+pub returns-clause-area : goal.returns-clause-area
+unfolding clap_on_literals command_app asked_of
+returns-clause-area c = refl
+
 pub returns-clause-equals : goal.returns-clause-equals
 unfolding clap_on_literals command_app asked_of
 returns-clause-equals c = refl

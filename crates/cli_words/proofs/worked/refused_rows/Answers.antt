@@ -28,6 +28,14 @@ pub returns-clause-seed : goal.returns-clause-seed
 unfolding clap_on_literals command_app asked_of
 returns-clause-seed c = refl
 
+pub returns-clause-no_step : goal.returns-clause-no_step
+unfolding clap_on_literals command_app asked_of
+returns-clause-no_step c = refl
+
+pub returns-clause-wide_step : goal.returns-clause-wide_step
+unfolding clap_on_literals command_app asked_of
+returns-clause-wide_step c = refl
+
 pub returns-clause-help : goal.returns-clause-help
 unfolding clap_on_literals command_app asked_of
 returns-clause-help c = refl

@@ -6,7 +6,7 @@ use Rattle.codac_run.specs.declared.ended.Status.{Status}
 use Rattle.codac_run.specs.declared.ended.Status.TheVariants as status
 use Rattle.codac_run.specs.Reports.{status_of, Writes}
 use Rattle.mission_loops.specs.Cost.{TakesAtMost}
-use Rattle.codac_run.specs.Tails.{told_queries}
+use Rattle.codac_run.specs.Tails.{paved_queries}
 use Rattle.codac_run.specs.Telling.{AreToldAfter, AreCutShortAfter}
 use Rattle.codac_run.proofs.Handing.{reported, ran-out-after, not-handed, not-found}
 use Rattle.codac_run.proofs.reporting.report.Goals as goal
@@ -24,8 +24,8 @@ returns-in_default-tell-clause-ends g c =
     let mid = c.write_sections.new.sink in
     let after = c.tell.new.sink in
     let t = subst (λ (box : Option (List Span)). AreCutShortAfter written flushed faults m plan section box mid after) (ap (λ (s : State). s.box) c.store.ensures) c.in_default-tell.ensures.cut_short in
-    inr (inr (inl (ran-out-after written flushed faults m plan old mid net section c.handed.result c.args.steps.now c.write_sections.new.steps c.tell.new.steps c.requires c.in-Ok-write_sections.ensures.reported
-    (subst (λ (s : State). TakesAtMost s.shape s.box (told_queries plan.tail (take section.upto m.items)) c.write_sections.new.steps c.tell.new.steps) c.store.ensures c.in_default-tell.ensures.steps) c.handed.ensures.spent after t c.handed.ensures.status
+    inr (inr (inl (ran-out-after written flushed faults m plan old mid net section c.handed.result c.args.steps.now c.write_sections.new.steps c.tell.new.steps c.requires.mission c.in-Ok-write_sections.ensures.reported
+    (subst (λ (s : State). TakesAtMost s.shape s.box (paved_queries plan.tail (take section.upto m.items)) c.write_sections.new.steps c.tell.new.steps) c.store.ensures c.in_default-tell.ensures.steps) c.handed.ensures.spent after t c.handed.ensures.status
     (not-handed plan.hands_out net c.handed.result.net c.handed.ensures.net) (not-found plan.hands_out _ c.handed.result.found c.handed.ensures.found))))
 
 pub returns-clause-ends : goal.returns-clause-ends
@@ -45,8 +45,8 @@ returns-clause-ends g c =
     let findings = c.in-Ok-tell.findings in
     let t = subst (λ (box : Option (List Span)). AreToldAfter written flushed faults m plan section box mid after findings) (ap (λ (s : State). s.box) c.store.ensures) c.in-Ok-tell.ensures.told in
     let planned : c.status_of-planned.result ≡ status_of (verdict_of section.end.answer) = c.status_of-planned.ensures ∙ ap status_of c.verdict_of.ensures in
-    inr (inr (inr (reported written flushed faults m plan old mid net section c.handed-2.result c.args.steps.now c.write_sections.new.steps c.tell.new.steps c.requires c.in-Ok-write_sections.ensures.reported
-    (subst (λ (s : State). TakesAtMost s.shape s.box (told_queries plan.tail (take section.upto m.items)) c.write_sections.new.steps c.tell.new.steps) c.store.ensures c.in-Ok-tell.ensures.steps) c.handed-2.ensures.spent after new count c.finish-status.result findings t
+    inr (inr (inr (reported written flushed faults m plan old mid net section c.handed-2.result c.args.steps.now c.write_sections.new.steps c.tell.new.steps c.requires.mission c.in-Ok-write_sections.ensures.reported
+    (subst (λ (s : State). TakesAtMost s.shape s.box (paved_queries plan.tail (take section.upto m.items)) c.write_sections.new.steps c.tell.new.steps) c.store.ensures c.in-Ok-tell.ensures.steps) c.handed-2.ensures.spent after new count c.finish-status.result findings t
     (subst (λ (t : Status). (c.finish-status.result ≡ t) ⊎ (c.finish-status.result ≡ status.WriteFault)) planned c.finish-status.ensures.only)
     c.finish-status.ensures.told
     (λ text sends. subst (λ (t : Status). Writes text t (written old) new count c.finish-status.result) planned (c.finish-status.ensures.writes old text sends))

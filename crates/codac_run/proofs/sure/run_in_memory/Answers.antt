@@ -1,4 +1,4 @@
-use Rattle.std.proofs.Common.{◌-◌, ℕ, List, [], Some, subst}
+use Rattle.std.proofs.Common.{◌-◌, [], Some, subst}
 use Rattle.tube_io.specs.InMemory.{PlainSink, PlainSource}
 use Rattle.codac_run.specs.Plans.{planned}
 use Rattle.codac_run.specs.Reports.{Ends}
