@@ -4,6 +4,7 @@ ghost use Rattle.std.specs.Prelude.{◌≡◌};
 ghost use Rattle.mission_log.specs.declared.fault.LogFault.TheVariants as LogFault;
 
 use log_fields::Cause;
+use std::alloc::AllocError;
 use tube_io::NoMemory;
 
 /// Why a log is refused.
@@ -19,6 +20,14 @@ impl From<NoMemory> for LogFault {
     ghost from_gives = { λ _ e. e ≡ LogFault.NoMemory };
 
     fn from(_e: NoMemory) -> LogFault {
+        LogFault::NoMemory
+    }
+}
+
+impl From<AllocError> for LogFault {
+    ghost from_gives = { λ _ e. e ≡ LogFault.NoMemory };
+
+    fn from(_e: AllocError) -> LogFault {
         LogFault::NoMemory
     }
 }

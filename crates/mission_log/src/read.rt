@@ -45,7 +45,7 @@ fn drafted(alloc: Global, bytes: &[u8]) -> Result<Draft, LogFault>
 {
     let mut rows = Rows::new(alloc, bytes);
     let mut draft = Draft::new(alloc);
-    let mut row = ByteRecord::new(alloc);
+    let mut row = ByteRecord::with_capacity(alloc, 0, most_fields(bytes))?;
     while rows.next(&mut row)? {
         let number = draft.len() as u32 + 1;
         let are_notes = !draft.has_head() & is_note(field(&row, 0));
@@ -64,6 +64,17 @@ fn drafted(alloc: Global, bytes: &[u8]) -> Result<Draft, LogFault>
         });
     }
     Ok(draft)
+}
+
+// About as many fields as the widest record has: room for their ends is taken once, since doubling the room
+// of a line of 33 million fields would take as much again.
+fn most_fields(bytes: &[u8]) -> usize {
+    bytes
+        .split(|byte| *byte == b'\n')
+        .map(|line| line.iter().filter(|byte| **byte == b',').count())
+        .max()
+        .unwrap_or(0)
+        .saturating_add(1)
 }
 
 // Where there is no record but notes, that comes before the cause of a record.
