@@ -1,0 +1,6 @@
+pub mod Cuts
+pub mod Pieces
+pub mod Spelled
+pub mod LinkWords
+pub mod Links
+pub mod Sources

@@ -1,0 +1,6 @@
+pub mod Words
+pub mod Lines
+pub mod Forms
+pub mod Parts
+pub mod Reads
+pub mod Laws
