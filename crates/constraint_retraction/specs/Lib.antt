@@ -1,0 +1,4 @@
+pub mod Joining
+pub mod Linked
+pub mod Resetting
+pub mod Withdrawal
