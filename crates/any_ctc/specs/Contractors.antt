@@ -5,14 +5,14 @@ use Rattle.tube_spec.specs.Projection.{Projection}
 use Rattle.ctc_eval.specs.Held.{rate_of}
 use Rattle.tube_names.specs.Points.{numbers}
 use Rattle.expr_hc4.specs.Programs.{bound_comparison}
-use Rattle.any_ctc.specs.Constraints.{Constraint, SliceOf, DerivOf, BoundOf, EvalOf, DelayToOf, DelayFromOf, DelayShiftOf, DistOf, ConstellOf, ExprOf, constraint_projections, constraint_scope}
+use Rattle.any_ctc.specs.Constraints.{Constraint, SlicesOf, DerivsOf, BoundOf, EvalOf, DelayToOf, DelayFromOf, DelayShiftOf, DistOf, ConstellOf, ExprOf, constraint_projections, constraint_scope}
 use Rattle.any_ctc.specs.declared.AnyCtc.{AnyCtc}
-use Rattle.any_ctc.specs.declared.AnyCtc.TheVariants.{Slice, Deriv, Bound, Eval, DelayTo, DelayFrom, DelayShift, Dist2, Dist3, Constell, Expr}
+use Rattle.any_ctc.specs.declared.AnyCtc.TheVariants.{Slices, Derivs, Bound, Eval, DelayTo, DelayFrom, DelayShift, Dist2, Dist3, Constell, Expr}
 
 -- the constraint that a contractor stands for
 abbrev pub constraint_of : AnyCtc → Constraint
-constraint_of (Slice c) = SliceOf c.signal.0 c.slice
-constraint_of (Deriv c) = DerivOf c.x.0 c.rate.0 c.slice
+constraint_of (Slices c) = SlicesOf c.signal.0
+constraint_of (Derivs c) = DerivsOf c.x.0 c.rate.0
 constraint_of (Bound c) = BoundOf c.signal.0 c.first c.last c.range
 constraint_of (Eval c) = EvalOf c.x.0 (rate_of c.rate) c.t.0 c.z.0 c.declared
 constraint_of (DelayTo c) = DelayToOf c.x.0 c.y.0 c.tau.0

@@ -1,3 +1,5 @@
 pub mod Constraints
 pub mod ConstraintLaws
 pub mod Contractors
+pub mod PartLaws
+pub mod Parts

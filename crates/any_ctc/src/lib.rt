@@ -4,10 +4,13 @@
 use ctc_constell::ConstellCtc;
 use ctc_core::{Contractor, Revised};
 use ctc_delay::{DelayFrom, DelayShift, DelayTo};
-use ctc_deriv::{BoundCtc, DerivCtc, SliceCtc};
+use ctc_deriv::BoundCtc;
 use ctc_dist::DistCtc;
 use ctc_eval::EvalCtc;
+use ctc_parts::{Parted, revise_whole, still_whole};
+use ctc_sweeps::{DerivSweep, SliceSweep};
 use expr_hc4::ExprCtc;
+use std::ops::Range;
 use std::sync::ledger::Ledger;
 use step_count::Steps;
 use tube_store::{CellId, Store};
@@ -15,10 +18,10 @@ use tube_store::{CellId, Store};
 /// A contractor of one of the kinds that records make. Each call is passed on to the contractor within.
 #[derive(Drop)]
 pub enum AnyCtc {
-    /// A slice of a signal.
-    Slice(SliceCtc),
-    /// A signal and its rate over a slice.
-    Deriv(DerivCtc),
+    /// All slices of a signal.
+    Slices(SliceSweep),
+    /// A signal and its rate over all slices.
+    Derivs(DerivSweep),
     /// A measured range of a signal over ticks.
     Bound(BoundCtc),
     /// The value of a signal at a time.
@@ -68,8 +71,8 @@ impl Contractor for AnyCtc {
 
     fn reads(&self, store: &Store) -> u32 {
         match self {
-            AnyCtc::Slice(c) => c.reads(store),
-            AnyCtc::Deriv(c) => c.reads(store),
+            AnyCtc::Slices(c) => c.reads(store),
+            AnyCtc::Derivs(c) => c.reads(store),
             AnyCtc::Bound(c) => c.reads(store),
             AnyCtc::Eval(c) => c.reads(store),
             AnyCtc::DelayTo(c) => c.reads(store),
@@ -84,8 +87,8 @@ impl Contractor for AnyCtc {
 
     fn read(&self, store: &Store, i: u32) -> CellId {
         match self {
-            AnyCtc::Slice(c) => c.read(store, i),
-            AnyCtc::Deriv(c) => c.read(store, i),
+            AnyCtc::Slices(c) => c.read(store, i),
+            AnyCtc::Derivs(c) => c.read(store, i),
             AnyCtc::Bound(c) => c.read(store, i),
             AnyCtc::Eval(c) => c.read(store, i),
             AnyCtc::DelayTo(c) => c.read(store, i),
@@ -100,8 +103,8 @@ impl Contractor for AnyCtc {
 
     fn writes(&self, store: &Store) -> u32 {
         match self {
-            AnyCtc::Slice(c) => c.writes(store),
-            AnyCtc::Deriv(c) => c.writes(store),
+            AnyCtc::Slices(c) => c.writes(store),
+            AnyCtc::Derivs(c) => c.writes(store),
             AnyCtc::Bound(c) => c.writes(store),
             AnyCtc::Eval(c) => c.writes(store),
             AnyCtc::DelayTo(c) => c.writes(store),
@@ -116,8 +119,8 @@ impl Contractor for AnyCtc {
 
     fn written(&self, store: &Store, i: u32) -> CellId {
         match self {
-            AnyCtc::Slice(c) => c.written(store, i),
-            AnyCtc::Deriv(c) => c.written(store, i),
+            AnyCtc::Slices(c) => c.written(store, i),
+            AnyCtc::Derivs(c) => c.written(store, i),
             AnyCtc::Bound(c) => c.written(store, i),
             AnyCtc::Eval(c) => c.written(store, i),
             AnyCtc::DelayTo(c) => c.written(store, i),
@@ -132,8 +135,8 @@ impl Contractor for AnyCtc {
 
     fn revise<L: Ledger>(&self, store: &mut Store, steps: &mut Steps<L>) -> Revised {
         match self {
-            AnyCtc::Slice(c) => c.revise(store, steps),
-            AnyCtc::Deriv(c) => c.revise(store, steps),
+            AnyCtc::Slices(c) => c.revise(store, steps),
+            AnyCtc::Derivs(c) => c.revise(store, steps),
             AnyCtc::Bound(c) => c.revise(store, steps),
             AnyCtc::Eval(c) => c.revise(store, steps),
             AnyCtc::DelayTo(c) => c.revise(store, steps),
@@ -148,8 +151,8 @@ impl Contractor for AnyCtc {
 
     fn still<L: Ledger>(&self, store: &Store, steps: &mut Steps<L>) -> bool {
         match self {
-            AnyCtc::Slice(c) => c.still(store, steps),
-            AnyCtc::Deriv(c) => c.still(store, steps),
+            AnyCtc::Slices(c) => c.still(store, steps),
+            AnyCtc::Derivs(c) => c.still(store, steps),
             AnyCtc::Bound(c) => c.still(store, steps),
             AnyCtc::Eval(c) => c.still(store, steps),
             AnyCtc::DelayTo(c) => c.still(store, steps),
@@ -159,6 +162,104 @@ impl Contractor for AnyCtc {
             AnyCtc::Dist3(c) => c.still(store, steps),
             AnyCtc::Constell(c) => c.still(store, steps),
             AnyCtc::Expr(c) => c.still(store, steps),
+        }
+    }
+}
+
+impl Parted for AnyCtc {
+    ghost use Rattle.any_ctc.specs.Contractors.{constraint_of};
+    ghost use Rattle.any_ctc.specs.Parts.{constraint_parts, constraint_part, constraint_part_scope};
+    ghost use Rattle.any_ctc.specs.PartLaws.{constraint-whole, constraint-part_reads, constraint-part_in_scope, constraint-same_parts, constraint-same_part};
+
+    ghost parts = { λ c s. constraint_parts s (constraint_of c) };
+
+    ghost part = { λ c s. constraint_part s (constraint_of c) };
+
+    ghost part_scope = { λ c s. constraint_part_scope s (constraint_of c) };
+
+    ghost whole = { λ c s. constraint-whole (constraint_of c) s };
+
+    ghost part_reads = { λ c s i below. constraint-part_reads (constraint_of c) s i below };
+
+    ghost part_in_scope = { λ c s i k below among. constraint-part_in_scope (constraint_of c) s i k below among };
+
+    ghost same_parts = { λ c s t b grows fits. constraint-same_parts (constraint_of c) s t grows };
+
+    ghost same_part = { λ c s t b i grows fits below. constraint-same_part (constraint_of c) s t i grows fits below };
+
+    fn parts(&self, store: &Store) -> u32 {
+        match self {
+            AnyCtc::Slices(c) => c.parts(store),
+            AnyCtc::Derivs(c) => c.parts(store),
+            AnyCtc::Bound(_) => 1,
+            AnyCtc::Eval(_) => 1,
+            AnyCtc::DelayTo(_) => 1,
+            AnyCtc::DelayFrom(_) => 1,
+            AnyCtc::DelayShift(_) => 1,
+            AnyCtc::Dist2(_) => 1,
+            AnyCtc::Dist3(_) => 1,
+            AnyCtc::Constell(_) => 1,
+            AnyCtc::Expr(_) => 1,
+        }
+    }
+
+    fn reach(&self, store: &Store, cell: CellId) -> Range<u32> {
+        match self {
+            AnyCtc::Slices(c) => c.reach(store, cell),
+            AnyCtc::Derivs(c) => c.reach(store, cell),
+            AnyCtc::Bound(_) => 0..1,
+            AnyCtc::Eval(_) => 0..1,
+            AnyCtc::DelayTo(_) => 0..1,
+            AnyCtc::DelayFrom(_) => 0..1,
+            AnyCtc::DelayShift(_) => 0..1,
+            AnyCtc::Dist2(_) => 0..1,
+            AnyCtc::Dist3(_) => 0..1,
+            AnyCtc::Constell(_) => 0..1,
+            AnyCtc::Expr(_) => 0..1,
+        }
+    }
+
+    fn revise_marked<L: Ledger>(
+        &self,
+        store: &mut Store,
+        marks: &mut [bool],
+        within: Range<u32>,
+        steps: &mut Steps<L>,
+    ) -> Revised {
+        match self {
+            AnyCtc::Slices(c) => c.revise_marked(store, marks, within, steps),
+            AnyCtc::Derivs(c) => c.revise_marked(store, marks, within, steps),
+            AnyCtc::Bound(c) => revise_whole(c, store, marks, within, steps),
+            AnyCtc::Eval(c) => revise_whole(c, store, marks, within, steps),
+            AnyCtc::DelayTo(c) => revise_whole(c, store, marks, within, steps),
+            AnyCtc::DelayFrom(c) => revise_whole(c, store, marks, within, steps),
+            AnyCtc::DelayShift(c) => revise_whole(c, store, marks, within, steps),
+            AnyCtc::Dist2(c) => revise_whole(c, store, marks, within, steps),
+            AnyCtc::Dist3(c) => revise_whole(c, store, marks, within, steps),
+            AnyCtc::Constell(c) => revise_whole(c, store, marks, within, steps),
+            AnyCtc::Expr(c) => revise_whole(c, store, marks, within, steps),
+        }
+    }
+
+    fn still_marked<L: Ledger>(
+        &self,
+        store: &Store,
+        marks: &[bool],
+        within: Range<u32>,
+        steps: &mut Steps<L>,
+    ) -> bool {
+        match self {
+            AnyCtc::Slices(c) => c.still_marked(store, marks, within, steps),
+            AnyCtc::Derivs(c) => c.still_marked(store, marks, within, steps),
+            AnyCtc::Bound(c) => still_whole(c, store, marks, within, steps),
+            AnyCtc::Eval(c) => still_whole(c, store, marks, within, steps),
+            AnyCtc::DelayTo(c) => still_whole(c, store, marks, within, steps),
+            AnyCtc::DelayFrom(c) => still_whole(c, store, marks, within, steps),
+            AnyCtc::DelayShift(c) => still_whole(c, store, marks, within, steps),
+            AnyCtc::Dist2(c) => still_whole(c, store, marks, within, steps),
+            AnyCtc::Dist3(c) => still_whole(c, store, marks, within, steps),
+            AnyCtc::Constell(c) => still_whole(c, store, marks, within, steps),
+            AnyCtc::Expr(c) => still_whole(c, store, marks, within, steps),
         }
     }
 }

@@ -38,7 +38,8 @@ fn ran(alloc: Global, line: &str, log: &[u8]) -> Result<(Ended, SureSink<200>), 
     Ok(run_counted::<Brand>(alloc, &words, bytes, Blank::new(1)))
 }
 
-// The second of three sections is spent: five cells of width 2,000 and one contractor that narrows, the third.
+// The second of three sections is spent: five cells of width 2,000 and one contractor that narrows, the second:
+// that of the slices of x has the number 0.
 #[test]
 fn where_a_section_was_spent(rt: HostRuntime) -> Result<(), Fail> {
     let log = b"mission,1,10,5\nsignal,x,-1000,1000\nsettle\nat,x,0,0,0\nsettle\nat,x,10,0,0\n";
@@ -48,7 +49,7 @@ fn where_a_section_was_spent(rt: HostRuntime) -> Result<(), Fail> {
     let at = ended.spent.ok_or("no section was spent")?;
     assert_eq!(rt;
         (at.section, at.ctc, at.began, at.now),
-        (2, CtcId(2), 10_000, 10_000)
+        (2, CtcId(1), 10_000, 10_000)
     );
     assert_eq!(rt;
         sink.bytes(),

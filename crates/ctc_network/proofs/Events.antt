@@ -1,18 +1,17 @@
 -- The calls of a net as events of a schedule.
-use Rattle.std.proofs.Common.{◌≡◌, ℕ, ◌<◌, Option, Some, List, [], ◌∷◌, ◌++◌, true, IfSome, refl, sym, ap, subst, ◌∙◌, arith, length, map, option_map, slice_get}
+use Rattle.std.proofs.Common.{◌≡◌, ℕ, ◌<◌, Option, Some, List, [], ◌∷◌, ◌++◌, true, IfSome, refl, sym, ap, subst, ◌∙◌, arith, length, option_map, slice_get}
 use Rattle.std.proofs.lemmas.List.{map-append, length-map}
 use Rattle.std.proofs.lemmas.Option.{slice_get-map}
 use Rattle.tube_spec.specs.Span.{Span, IsProper}
 use Rattle.tube_spec.specs.Shape.{Shape, IsShape, with_signal, with_var}
 use Rattle.tube_spec.specs.Projection.{Projection}
 use Rattle.tube_spec.specs.Owner.{Owner, SignalIn, VariableIn, declared_cells, with_owner}
-use Rattle.tube_spec.specs.Box.{IsBox, box_more}
+use Rattle.tube_spec.specs.Box.{box_more}
 use Rattle.tube_store.specs.State.{State, IsStore, state_with}
 use Rattle.ctc_core.specs.declared.Revised.{Revised}
-use Rattle.ctc_core.specs.Answers.{Revises}
 use Rattle.ctc_core.proofs.Firing.{IsBox-of}
 use Rattle.ctc_network.specs.Nets.{NetState, of_place}
-use Rattle.ctc_network.specs.Schedule.{Network, Event, AddSignal, AddVar, AddContractor, Fire, IsFiring, IsNetworkOf, IsStep, after, grown}
+use Rattle.ctc_network.specs.Schedule.{Network, AddSignal, AddVar, AddContractor, Fire, IsFiring, IsNetworkOf, IsStep, after, grown}
 use Rattle.ctc_network.specs.Settling.{Fires}
 use Rattle.ctc_network.proofs.Replaying.{if-some}
 use Rattle.ctc_network.proofs.Runs.{get-there}

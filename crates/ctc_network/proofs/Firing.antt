@@ -1,8 +1,7 @@
 -- What one firing does to a net.
-use Rattle.std.proofs.Common.{◌≡◌, ◌≢◌, ℕ, ◌+◌, ◌<◌, ◌≤◌, inl, inr, Bool, true, false, Option, Some, None, List, [], arith, refl, sym, ap, subst, ◌∙◌, length, length-set, map, set, get_or, All, Contains, IsSome, IsNone, IfSome, slice_get, flat_map}
+use Rattle.std.proofs.Common.{◌≡◌, ◌≢◌, ℕ, ◌+◌, ◌≤◌, inl, inr, Bool, true, false, Option, Some, None, List, [], arith, refl, sym, ap, subst, ◌∙◌, length, length-set, map, set, All, Contains, IsSome, IsNone, IfSome, slice_get, flat_map}
 use Rattle.std.specs.Cmp.{nat_eq_equiv}
 use Rattle.std.specs.List.{IsDistinct}
-use Rattle.std.proofs.lemmas.Bool.{cases_eq}
 use Rattle.std.proofs.lemmas.Map.Views.{list_any-from_Contains}
 use Rattle.tube_spec.specs.Span.{Span}
 use Rattle.tube_spec.specs.Shape.{Shape}
@@ -21,7 +20,7 @@ use Rattle.cell_readers.specs.Waking.{AreWoken, AreAtRest}
 use Rattle.cell_readers.proofs.Counts.{mark-other}
 use Rattle.cell_readers.proofs.Kept.{drained}
 use Rattle.cell_readers.proofs.Steps.{step}
-use Rattle.ctc_network.specs.Nets.{Places, ArePlaces, IsDrained, IsSettlable, IsTableOf, IsKept, entries_of, readers_of, reads_by}
+use Rattle.ctc_network.specs.Nets.{Places, IsSettlable, IsTableOf, readers_of, reads_by}
 use Rattle.ctc_network.specs.Noting.{Notes}
 use Rattle.ctc_network.specs.Settling.{Fires, IsWoken, IsNarrowedBy, NarrowerIn}
 use Rattle.ctc_network.proofs.Runs.{narrowed-none, narrowed-fire, same-fixpoint, get-all}
@@ -75,6 +74,12 @@ some-before ps old new x r some = at old.box refl
         at_none None f s = cc
         at_none (Some xs) f s = cc
     at (Some xs) e = refl
+
+-- what is noted leaves the shape and the box
+pub noted-same : (x : Revised) (k : ℕ) (lists : List (List ℕ)) (new m : State) (ts us : List Bool) → Notes x k lists new m ts us → (m.shape ≡ new.shape) × (m.box ≡ new.box)
+noted-same Same k lists new m ts us notes = (ap (λ (s : State). s.shape) notes.0, ap (λ (s : State). s.box) notes.0)
+noted-same Narrowed k lists new m ts us notes = (ap (λ (s : State). s.shape) notes.0, ap (λ (s : State). s.box) notes.0)
+noted-same Empty k lists new m ts us notes = (ap (λ (s : State). s.shape) notes.0, ap (λ (s : State). s.box) notes.0)
 
 module _ (C : Type 0) (projections : C → Shape → List Projection) (scope : C → Shape → List ℕ) (fits : C → Shape → Option (List Span) → Type 0)
     (fits_below : (c : C) (s : Shape) (a b : Option (List Span)) → IsBelowBox a b → fits c s b → fits c s a)
@@ -164,12 +169,6 @@ module _ (C : Type 0) (projections : C → Shape → List Projection) (scope : C
       noted-woken Narrowed m us r notes =
           subst (λ (s : State). IsWoken scope old.shape cs old.box s.box k ts us) (sym notes.0) (narrowed-woken r us (woken-of lists readers m us notes))
       noted-woken Empty m us r notes = notes.1
-
-  -- what is noted leaves the shape and the box
-  pub noted-same : (x : Revised) (k : ℕ) (lists : List (List ℕ)) (new m : State) (ts us : List Bool) → Notes x k lists new m ts us → (m.shape ≡ new.shape) × (m.box ≡ new.box)
-  noted-same Same k lists new m ts us notes = (ap (λ (s : State). s.shape) notes.0, ap (λ (s : State). s.box) notes.0)
-  noted-same Narrowed k lists new m ts us notes = (ap (λ (s : State). s.shape) notes.0, ap (λ (s : State). s.box) notes.0)
-  noted-same Empty k lists new m ts us notes = (ap (λ (s : State). s.shape) notes.0, ap (λ (s : State). s.box) notes.0)
 
   -- the laws of the firing, with the touched cells set aside
   pub noted-fires : (ps : List Projection) (x : Revised) (k : ℕ) (lists : List (List ℕ)) (old new m : State) (ts us : List Bool) → Revises ps old new x → Notes x k lists new m ts us → Fires ps old m x

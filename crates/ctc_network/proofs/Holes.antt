@@ -1,5 +1,5 @@
 -- What holds of contractors holds of their places, of which some are empty.
-use Rattle.std.proofs.Common.{◌≡◌, ℕ, zero, suc, ◌+◌, ◌<◌, ◌≤◌, ◌⊎◌, inl, inr, ◌||◌, Option, Some, None, List, [], ◌∷◌, ◌++◌, Bool, true, false, IsSome, IsSomeAnd, IfSome, refl, sym, ap, subst, ◌∙◌, length, map, set, get_or, All, Contains, arith, slice_get, pos, nat_eq, cond}
+use Rattle.std.proofs.Common.{◌≡◌, ℕ, zero, suc, ◌+◌, ◌<◌, ◌⊎◌, inl, inr, Option, Some, None, List, [], ◌∷◌, ◌++◌, Bool, true, false, IsSome, IsSomeAnd, IfSome, refl, sym, ap, subst, ◌∙◌, length, map, set, get_or, All, Contains, arith, slice_get, cond}
 use Rattle.std.specs.Prelude.{is_some}
 use Rattle.std.specs.List.{list_any}
 use Rattle.std.proofs.lemmas.Bool.{cases_eq}

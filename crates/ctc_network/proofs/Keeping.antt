@@ -2,7 +2,7 @@
 use Rattle.std.proofs.Common.{◌≡◌, ℕ, zero, suc, ◌+◌, ◌<◌, ◌≤◌, ◌⊎◌, inl, inr, Option, Some, None, List, [], ◌∷◌, ◌++◌, Bool, true, false, IfSome, refl, sym, subst, ap, ap₂, ◌∙◌, length, map, set, get_or, All, Contains, arith, slice_get, sum_by, pos}
 use Rattle.std.proofs.lemmas.List.{length-set, length_push, length-map, get_or_append_left, map-append}
 use Rattle.std.proofs.lemmas.List.Elements.{All-push, All-head, All-tail}
-use Rattle.std.proofs.lemmas.List.Sums.{sum_by-cons, sum_by_push}
+use Rattle.std.proofs.lemmas.List.Sums.{sum_by_push}
 use Rattle.tube_spec.specs.Span.{Span, point}
 use Rattle.tube_spec.specs.Narrowing.{Narrowing, IsUnder}
 use Rattle.tube_spec.specs.Shape.{Shape, IsShape, Extends}
@@ -14,7 +14,7 @@ use Rattle.tube_spec.proofs.Hulls.{owner-extends}
 use Rattle.tube_store.specs.State.{State, IsStore, state_with}
 use Rattle.cell_readers.specs.Entries.{Table, AreReaders}
 use Rattle.cell_readers.specs.Waking.{AreAtRest}
-use Rattle.ctc_network.specs.Nets.{ArePlaces, IsDrained, IsSettlable, IsTableOf, IsKept, entries_of}
+use Rattle.ctc_network.specs.Nets.{ArePlaces, IsTableOf, IsKept, entries_of}
 use Rattle.ctc_network.proofs.Runs.{get-all}
 use Rattle.ctc_network.proofs.Waking.{sum-scopes}
 

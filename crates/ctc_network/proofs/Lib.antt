@@ -3,6 +3,7 @@ pub mod Events
 pub mod Firing
 pub mod Holes
 pub mod Keeping
+pub mod Marks
 pub mod Replaying
 pub mod Resettling
 pub mod Runs

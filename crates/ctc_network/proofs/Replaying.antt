@@ -6,14 +6,13 @@ use Rattle.std.proofs.lemmas.List.{take_more}
 use Rattle.std.proofs.lemmas.List.Elements.{filter_map-append, All-push, All-head, All-tail, Contains-push, Contains-push_cases, Contains-append_left}
 use Rattle.std.proofs.lemmas.List.Concat.{flat_map-append}
 use Rattle.std.proofs.lemmas.Map.Keys.{IsDistinct-push}
-use Rattle.std.proofs.lemmas.Map.Views.{list_any-from_Contains, Contains-from_any}
+use Rattle.std.proofs.lemmas.Map.Views.{Contains-from_any}
 use Rattle.tube_spec.specs.Span.{Span}
 use Rattle.tube_spec.specs.Shape.{Shape}
-use Rattle.tube_spec.specs.Box.{IsBelowBox}
 use Rattle.tube_spec.specs.Projection.{Projection, IsMonotone}
 use Rattle.tube_store.specs.State.{State, IsStore}
-use Rattle.ctc_core.specs.Revising.{IfBoth, AddsNarrower, IsNarrower}
-use Rattle.ctc_core.specs.Answers.{Revises, MatchRevised, changed_by, then_of}
+use Rattle.ctc_core.specs.Revising.{IfBoth, AddsNarrower}
+use Rattle.ctc_core.specs.Answers.{Revises, changed_by, then_of}
 use Rattle.ctc_core.specs.declared.Revised.{Revised}
 use Rattle.ctc_core.specs.declared.Revised.TheVariants.{Same, Narrowed, Empty}
 use Rattle.ctc_core.proofs.Firing.{Revises-then}

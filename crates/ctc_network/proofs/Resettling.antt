@@ -4,7 +4,7 @@ use Rattle.std.proofs.Math.Nat.{add-mul}
 use Rattle.std.proofs.lemmas.List.Sums.{count_by-le-length}
 use Rattle.tube_spec.specs.Span.{Span}
 use Rattle.tube_spec.specs.Shape.{Shape}
-use Rattle.tube_spec.specs.Box.{IsBelowBox, measure_of}
+use Rattle.tube_spec.specs.Box.{IsBelowBox}
 use Rattle.tube_spec.specs.Projection.{Projection}
 use Rattle.tube_spec.specs.Fixpoint.{IsGreatest, KeepsFixpoints}
 use Rattle.tube_spec.proofs.Boxes.{IsBelowBox-trans}
@@ -12,7 +12,7 @@ use Rattle.tube_store.specs.State.{State}
 use Rattle.cell_readers.specs.Costs.{lost_cost}
 use Rattle.cell_readers.proofs.Weights.{lost-left_box}
 use Rattle.ctc_network.specs.Nets.{Places, readers_of}
-use Rattle.ctc_network.specs.Settling.{IsNarrowedBy, SettlesAs}
+use Rattle.ctc_network.specs.Settling.{SettlesAs}
 use Rattle.ctc_network.specs.declared.answers.CtcId.{CtcId}
 use Rattle.ctc_network.specs.declared.answers.Settled.{Settled}
 use Rattle.ctc_network.specs.declared.answers.Settled.TheVariants.{Fixpoint, Empty, Spent}

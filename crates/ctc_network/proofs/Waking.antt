@@ -1,5 +1,5 @@
 -- Who waits after a firing.
-use Rattle.std.proofs.Common.{◌≡◌, ◌≢◌, ℕ, zero, suc, ◌+◌, ◌<◌, ◌≤◌, ◌⊎◌, inl, inr, ◌||◌, Bool, true, false, Option, Some, None, List, [], ◌∷◌, ◌++◌, arith, refl, sym, ap, ap₂, subst, ◌∙◌, length, length-set, map, set, get_or, Contains, slice_get, nat_eq, count_by, sum_by, cond}
+use Rattle.std.proofs.Common.{◌≡◌, ◌≢◌, ℕ, zero, suc, ◌<◌, ◌⊎◌, inl, inr, ◌||◌, Bool, true, false, Option, Some, List, [], ◌∷◌, arith, refl, sym, ap, ap₂, subst, ◌∙◌, length, length-set, map, set, get_or, Contains, slice_get, nat_eq, count_by, sum_by, cond}
 use Rattle.std.specs.Cmp.{nat_eq_equiv}
 use Rattle.std.specs.List.{list_any}
 use Rattle.std.proofs.lemmas.Bool.{cases_eq}
@@ -9,8 +9,6 @@ use Rattle.std.proofs.lemmas.Option.{get_or_from_slice_get, slice_get-get_or, sl
 use Rattle.std.proofs.lemmas.Map.Views.{list_any-from_Contains, Contains-from_any}
 use Rattle.tube_spec.specs.Span.{Span}
 use Rattle.tube_spec.specs.Shape.{Shape}
-use Rattle.tube_store.specs.State.{State}
-use Rattle.ctc_core.specs.Revising.{IsNarrower, AddsNarrower, IfBoth}
 use Rattle.cell_readers.specs.Entries.{Table, AreReaders, WakesReaders, readers_at, reads_cell, is_reader}
 use Rattle.cell_readers.specs.Waking.{AreWoken}
 use Rattle.cell_readers.proofs.Counts.{mark-here, mark-other}

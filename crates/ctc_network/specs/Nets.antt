@@ -7,6 +7,8 @@ use Rattle.tube_spec.specs.Projection.{Projection}
 use Rattle.tube_store.specs.State.{State, IsStore, no_cells}
 use Rattle.cell_readers.specs.Entries.{Table, AreReaders, reads_cell}
 use Rattle.cell_readers.specs.Waking.{AreAtRest}
+use Rattle.part_marks.specs.Marks.{Marked}
+use Rattle.part_marks.specs.Nets.{AreBeside, AreMarked}
 
 -- the store, what stands under each number that was given, and beside it whether it waits
 pub record Places (K : Type 0) : Type 0 where
@@ -98,3 +100,15 @@ pub record IsNetKept {C : Type 0} (projections : C → Shape → List Projection
   pub kept : IsKept (of_place projections) (of_place scope) (fits_place fits) n table entries
   pub there : AreThere n.contractors n.waiting
   pub count : many ≡ count_there n.contractors
+
+-- Beside each contractor stand the marks of its parts: where the box is not empty, it is stable under each part that is not marked.
+pub record HasMarks {C : Type 0} (parts : C → Shape → ℕ) (part : C → Shape → ℕ → List Projection) (store : State) (cs : List (Option C)) (marks : List Marked) : Type 0 where
+  pub len : length marks ≡ length cs
+  pub beside : AreBeside parts store.shape cs marks
+  pub clean : AreMarked parts part store.shape store.box cs marks
+
+-- the invariant of a net with the marks of its contractors' parts
+pub record IsNetMarked {C : Type 0} (projections : C → Shape → List Projection) (scope : C → Shape → List ℕ) (fits : C → Shape → Option (List Span) → Type 0)
+    (parts : C → Shape → ℕ) (part : C → Shape → ℕ → List Projection) (n : NetState C) (table : Table) (entries many : ℕ) (ms : List Marked) : Type 0 where
+  pub net : IsNetKept projections scope fits n table entries many
+  pub marks : HasMarks parts part n.store n.contractors ms

@@ -16,9 +16,11 @@ use crate::answers::{AddFault, CtcId, Order, Settled};
 use crate::noting::note;
 use crate::places::{revise, still, there};
 use cell_readers::Readers;
-use ctc_core::{Contractor, Revised, start};
+use ctc_core::{Revised, start};
+use ctc_parts::Parted;
 use int_interval::Interval;
 use once_queue::Waiting;
+use part_marks::PartMarks;
 use slice_gates::Grid;
 use std::alloc::Global;
 use std::marker::Model;
@@ -32,11 +34,13 @@ use tube_store::{CellId, SignalId, Store, StoreFault, VarId};
 /// A contractor stands under the number that it was given. A number is of the net where a contractor stands under it: it is given once,
 /// and a place may be empty.
 #[derive(Drop)]
-pub struct Net<C: Contractor + Drop> {
+pub struct Net<C: Parted + Drop> {
     store: Store,
     // What stands under each number that was given.
     contractors: Vec<Option<C>>,
     waiting: Waiting,
+    // Beside each contractor which of its parts may narrow the box.
+    marks: Vec<PartMarks>,
     readers: Readers,
     // How many cells the contractors read, those of each added up.
     entries: u32,
@@ -44,17 +48,17 @@ pub struct Net<C: Contractor + Drop> {
     count: u32,
 }
 
-impl<C: Contractor + Drop> Model for Net<C> {
-    ghost use Rattle.ctc_network.specs.Nets.{NetState, IsNetKept};
+impl<C: Parted + Drop> Model for Net<C> {
+    ghost use Rattle.ctc_network.specs.Nets.{NetState, IsNetMarked};
 
     ghost Value = { NetState C };
 
     ghost view = { λ n. record { store = n.store; contractors = n.contractors.items; waiting = n.waiting } };
 
-    ghost invariant = { λ n. IsNetKept C.projections C.scope C.fits (record { store = n.store; contractors = n.contractors.items; waiting = n.waiting }) n.readers n.entries n.count };
+    ghost invariant = { λ n. IsNetMarked C.projections C.scope C.fits C.parts C.part (record { store = n.store; contractors = n.contractors.items; waiting = n.waiting }) n.readers n.entries n.count n.marks.items };
 }
 
-impl<C: Contractor + Drop> Net<C> {
+impl<C: Parted + Drop> Net<C> {
     /// A net over a grid, with no cell and no contractor. It takes no memory.
     pub fn new(alloc: Global, grid: Grid) -> Net<C>
         ensures { result ≡ no_net grid }
@@ -65,6 +69,7 @@ impl<C: Contractor + Drop> Net<C> {
             store,
             contractors: Vec::new(alloc),
             waiting: Waiting::new(alloc),
+            marks: Vec::new(alloc),
             readers: Readers::new(alloc),
             entries: 0,
             count: 0,
@@ -202,12 +207,15 @@ impl<C: Contractor + Drop> Net<C> {
             return Err(AddFault::FootFull);
         }
         let number = self.waiting.len();
+        let marks = PartMarks::all(*self.marks.allocator(), c.parts(&self.store))?;
         self.contractors.reserve(1)?;
+        self.marks.reserve(1)?;
         self.readers
             .cover(self.store.cells() as usize, reads as usize)?;
         self.waiting.push_number()?;
         self.readers.add(&c, &self.store);
         self.contractors.push_reserved(Some(c));
+        self.marks.push_reserved(marks);
         self.entries += reads;
         self.count += 1;
         Ok(CtcId(number))
@@ -223,13 +231,21 @@ impl<C: Contractor + Drop> Net<C> {
         ensures waiting { MatchRevised result (self.new.waiting ≡ slice_set self.old.waiting id.0 false) (IsWoken (of_place C.scope) self.old.store.shape self.old.contractors self.old.store.box self.new.store.box id.0 self.old.waiting self.new.waiting) (self.new.waiting ≡ self.old.waiting) }
         ensures step { steps.new ≡ steps.old + 1 }
     {
-        let answer = revise(&self.contractors[id.0 as usize], &mut self.store, steps);
+        let place = id.0 as usize;
+        let answer = revise(
+            &self.contractors[place],
+            &mut self.marks[place],
+            &mut self.store,
+            steps,
+        );
         note(
             answer,
             id.0,
             &self.readers,
+            &self.contractors,
             &mut self.store,
             &mut self.waiting,
+            &mut self.marks,
         );
         answer
     }
@@ -321,13 +337,21 @@ impl<C: Contractor + Drop> Net<C> {
         ensures falls { IfSome result (λ x. potential (readers_of (of_place C.scope) self.old.store.shape self.old.contractors) self.new.waiting self.new.store.box + 1 ≤ potential (readers_of (of_place C.scope) self.old.store.shape self.old.contractors) self.old.waiting self.old.store.box) }
     {
         let number = order.take(&mut self.waiting)?;
-        let answer = revise(&self.contractors[number as usize], &mut self.store, steps);
+        let place = number as usize;
+        let answer = revise(
+            &self.contractors[place],
+            &mut self.marks[place],
+            &mut self.store,
+            steps,
+        );
         note(
             answer,
             number,
             &self.readers,
+            &self.contractors,
             &mut self.store,
             &mut self.waiting,
+            &mut self.marks,
         );
         Some(answer)
     }
@@ -362,7 +386,13 @@ impl<C: Contractor + Drop> Net<C> {
         ensures rests { IfSome result (λ still. IsNone still → count_by (λ w. w) self.new.waiting + 1 ≡ count_by (λ w. w) self.old.waiting) }
     {
         let number = order.take(&mut self.waiting)?;
-        if still(&self.contractors[number as usize], &self.store, steps) {
+        let place = number as usize;
+        if still(
+            &self.contractors[place],
+            &self.marks[place],
+            &self.store,
+            steps,
+        ) {
             self.waiting.wake(number);
             return Some(Some(CtcId(number)));
         }

@@ -1,11 +1,15 @@
 //! What stands under a number: a contractor, or none.
 
-ghost use Rattle.std.specs.Prelude.{◌≡◌, ◌+◌, IsSome, IsTrue, IsFalse, IfSome, IsSomeAnd, Some};
+ghost use Rattle.std.specs.Prelude.{◌≡◌, ◌+◌, ℕ, IsSome, IsTrue, IsFalse, IfSome, IsSomeAnd, Some, false, length};
 ghost use Rattle.tube_spec.specs.Fixpoint.{IsFixpoint};
 ghost use Rattle.ctc_core.specs.Answers.{Revises};
+ghost use Rattle.ctc_parts.specs.Parts.{AreClean};
+ghost use Rattle.part_marks.specs.Marks.{marked_at};
 ghost use Rattle.ctc_network.specs.Nets.{of_place, fits_place};
 
 use ctc_core::{Contractor, Revised};
+use ctc_parts::Parted;
+use part_marks::PartMarks;
 use std::sync::ledger::Ledger;
 use step_count::Steps;
 use tube_store::Store;
@@ -21,31 +25,36 @@ pub(crate) fn there<C: Contractor>(place: &Option<C>) -> &C
     }
 }
 
-/// Fires the contractor at a place that is not empty.
-pub(crate) fn revise<C: Contractor, L: Ledger>(
+/// Fires the marked parts at least of the contractor at a place that is not empty. All its marks are cleared.
+pub(crate) fn revise<C: Parted, L: Ledger>(
     place: &Option<C>,
+    marks: &mut PartMarks,
     store: &mut Store,
     steps: &mut Steps<L>,
 ) -> Revised
     requires there { IsSome place.now }
     requires fits { fits_place C.fits place.now store.old.shape store.old.box }
+    requires clean { IfSome place.now (λ c. AreClean (C.parts c store.old.shape) (C.part c store.old.shape) (marked_at marks.old) store.old.box) }
     ensures revised { Revises (of_place C.projections place.now store.old.shape) store.old store.new result }
     ensures step { steps.new ≡ steps.old + 1 }
+    ensures len { length marks.new.flags ≡ length marks.old.flags }
 {
-    there(place).revise(store, steps)
+    marks.revise(there(place), store, steps)
 }
 
 /// Whether firing the contractor at a place that is not empty would change the store.
-pub(crate) fn still<C: Contractor, L: Ledger>(
+pub(crate) fn still<C: Parted, L: Ledger>(
     place: &Option<C>,
+    marks: &PartMarks,
     store: &Store,
     steps: &mut Steps<L>,
 ) -> bool
     requires there { IsSome place.now }
     requires fits { fits_place C.fits place.now store.now.shape store.now.box }
+    requires clean { IfSome place.now (λ c. AreClean (C.parts c store.now.shape) (C.part c store.now.shape) (marked_at marks.now) store.now.box) }
     ensures step { steps.new ≡ steps.old + 1 }
     ensures yes { IsTrue result → IsSomeAnd store.now.box (λ xs. IsFixpoint (of_place C.projections place.now store.now.shape) xs → ⊥) }
     ensures no { IsFalse result → IfSome store.now.box (IsFixpoint (of_place C.projections place.now store.now.shape)) }
 {
-    there(place).still(store, steps)
+    marks.still(there(place), store, steps)
 }

@@ -7,11 +7,11 @@ ghost use Rattle.ctc_network.specs.Settling.{SettlesAs};
 
 use crate::answers::{Order, Settled};
 use crate::net::Net;
-use ctc_core::Contractor;
+use ctc_parts::Parted;
 use std::sync::ledger::Ledger;
 use step_count::Steps;
 
-impl<C: Contractor + Drop> Net<C> {
+impl<C: Parted + Drop> Net<C> {
     /// Settles the net, and again after `Spent`, at most so many times in all and each time with the whole budget.
     ///
     /// So `Spent` comes only where the measure fell by the budget in each turn, and never where the budget times the turns is above the

@@ -12,7 +12,7 @@
 //!
 //! - [`Parted`] is the trait of a contractor made of parts, and what a network asks of it: its parts, which of them read a cell, a firing
 //!   and a test by marks.
-//! - [`Whole`] makes any contractor one of a single part.
+//! - [`revise_whole`] and [`still_whole`] are a firing and a test by marks of any contractor, taken as a single part.
 //! - [`Parts`] is what the author of a contractor of parts in a row writes: the visit and the test of one part. From it come the firing
 //!   ([`sweep_by_parts`]) and the test ([`still_by_parts`]) by marks, those of all parts ([`revise_all`], [`still_all`]), and the cells that
 //!   are written ([`writes_by_parts`], [`written_by_parts`]).
@@ -36,4 +36,4 @@ pub use marks::is_marked;
 pub use parted::Parted;
 pub use parts::{Parts, Visit, width_at};
 pub use sweep::{still_by_parts, sweep_by_parts};
-pub use whole::Whole;
+pub use whole::{revise_whole, still_whole};

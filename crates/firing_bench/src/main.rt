@@ -1,13 +1,13 @@
-//! Settles the mission on standard input and fires one of its contractors again and again, so that `bench/firings` and `bench/expressions` can
-//! time a firing. The words are how many contractors stand behind the one that is fired, and how often it is fired. The program prints how
-//! many firings narrowed something: none, since the mission is settled.
+//! Settles the mission on standard input and asks one of its contractors again and again whether it still narrows the box, which computes all its
+//! formulas as a firing of all its parts does, so that `bench/firings` and `bench/expressions` can time it. The words are how many contractors
+//! stand behind the one that is asked, and how often it is asked. The program prints how often it said yes: never, since the mission is settled.
 #![tactic(auto)]
 
 ghost use Rattle.std.specs.Prelude.{◌≡◌, ◌<◌};
 
 use cli_words::Words;
 use codac_run::{Ended, run};
-use ctc_core::Revised;
+use ctc_core::Contractor;
 use ctc_network::CtcId;
 use std::env;
 use std::marker::Brand;
@@ -25,9 +25,9 @@ fn asked(rt: &(impl Env + AllocGlobal)) -> Option<(u32, u32)> {
     Some((behind, turns))
 }
 
-// Settles the mission, fires the contractor so many times, and counts the firings that narrowed something; none where the mission is not
+// Settles the mission, asks the contractor so many times, and counts how often it would narrow something; none where the mission is not
 // settled or has no such contractor.
-fn fired<L: Ledger>(
+fn asked_again<L: Ledger>(
     rt: &(impl Input + AllocGlobal),
     blank: Blank,
     behind: u32,
@@ -44,11 +44,16 @@ fn fired<L: Ledger>(
     let mut sink = SureSink::<4096>::new();
     let mut steps = Steps::<L>::new(blank);
     let Ended { net, .. } = run(rt.alloc(), &words, &mut source, &mut sink, &mut steps);
-    let mut net = net?;
+    let net = net?;
     let number = CtcId(net.numbers().checked_sub(behind)?.checked_sub(1)?);
+    if !net.has(number) {
+        return None;
+    }
+    net.known();
+    let contractor = net.contractor(number);
     let mut narrowed: u32 = 0;
     for _ in 0..turns {
-        if net.has(number) && net.fire(number, &mut steps) == Revised::Narrowed {
+        if contractor.still(net.store(), &mut steps) {
             narrowed = narrowed.saturating_add(1);
         }
     }
@@ -59,7 +64,7 @@ fn main(rt: HostRuntime) -> ExitCode {
     let Some((behind, turns)) = asked(&rt) else {
         return ExitCode::FAILURE;
     };
-    let Some(narrowed) = fired::<Brand>(&rt, Blank::new(1), behind, turns) else {
+    let Some(narrowed) = asked_again::<Brand>(&rt, Blank::new(1), behind, turns) else {
         return ExitCode::FAILURE;
     };
     match println!(rt; "{narrowed}") {

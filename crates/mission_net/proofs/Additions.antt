@@ -2,7 +2,7 @@
 use Rattle.std.proofs.Common.{◌≡◌, ℕ, zero, suc, ◌+◌, ◌<◌, ◌≤◌, Option, Some, None, List, [], ◌∷◌, ◌++◌, Bool, true, All, get_or, drop, drop-cons, arith, refl, sym, ap, ap₂, subst, ◌∙◌, length, map, take, length-append, append-nil, append_assoc, replicate}
 use borrow.Author.Count.{below_more}
 use Rattle.std.proofs.Math.ListN.{get_or-append}
-use Rattle.std.proofs.lemmas.List.{take-append-drop, take_more, get_or-append-add, map-append, length-map, replicate-append-replicate}
+use Rattle.std.proofs.lemmas.List.{take-append-drop, take_more, get_or-append-add, map-append, replicate-append-replicate}
 use Rattle.std.proofs.lemmas.List.Sums.{sum_by-append}
 use Rattle.std.proofs.lemmas.List.Concat.{flat_map-append}
 use Rattle.tube_spec.specs.Span.{Span}

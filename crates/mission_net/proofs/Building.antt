@@ -1,6 +1,6 @@
 -- What building records leaves.
-use Rattle.std.proofs.Common.{◌≡◌, ℕ, ◌+◌, ◌<◌, ◌≤◌, Option, Some, None, List, [], ◌∷◌, ◌++◌, All, arith, refl, sym, ap, subst, ◌∙◌, length, map, take, drop, get_or, length-append, append-nil, append_assoc, add-zero, length-take-le, slice_index}
-use Rattle.std.proofs.lemmas.List.{drop-take, drop-append-le, length-map, map-append, take-append-drop, take-take, take_more}
+use Rattle.std.proofs.Common.{◌≡◌, ℕ, ◌+◌, ◌<◌, ◌≤◌, Option, Some, None, List, [], ◌∷◌, ◌++◌, All, arith, refl, sym, ap, subst, ◌∙◌, length, take, drop, get_or, length-append, append-nil, append_assoc, add-zero, length-take-le, slice_index}
+use Rattle.std.proofs.lemmas.List.{drop-take, drop-append-le, map-append, take-append-drop, take-take, take_more}
 use Rattle.std.proofs.lemmas.List.Sums.{sum_by-append}
 use Rattle.tube_spec.specs.Span.{Span, IsBounded}
 use Rattle.tube_spec.specs.Grid.{IsGrid, last_tick}
@@ -20,30 +20,30 @@ use Rattle.mission_items.proofs.Making.{signals-append, signals-last, variables-
 use Rattle.mission_items.proofs.Ranges.{beacons-right, made-ranges, signal-range, signals-right}
 use Rattle.mission_items.proofs.Standing.{named-below}
 use Rattle.any_ctc.specs.Constraints.{Constraint, reads_of, reads_in, IsOf}
-use Rattle.mission_net.specs.Records.{made, owners, owners_from, shape_by, start, constraints_of, constraints_from, constraints, SatisfiesFrom, SatisfiesAll}
+use Rattle.mission_net.specs.Records.{made, owners, owners_from, shape_by, start, contracts_of, contracts_from, contracts, SatisfiesFrom, SatisfiesAll}
 use Rattle.mission_net.specs.Tables.{IsTableOf, IsTaken, Table}
 use Rattle.any_ctc.specs.declared.AnyCtc.{AnyCtc}
-use Rattle.any_ctc.specs.Contractors.{constraint_of}
 use Rattle.mission_net.specs.Building.{CanBuild, HasBeacon, IsAdded, IsBindable, IsNetOf, IsTimed, constraints_in, each_alone}
-use Rattle.mission_net.proofs.Numbers.{net-constraints, net-count}
+use Rattle.mission_net.proofs.Numbers.{net-contracts, net-count}
 use Rattle.mission_net.proofs.Shapes.{owners-append, shape-snoc, shape-grid, shape-extends}
 use Rattle.mission_net.proofs.Counts.{cells-count, signals-count, variables-count, signals-made, variables-made}
 use Rattle.mission_net.proofs.Holding.{satisfies-in-range}
-use Rattle.mission_net.proofs.Fitting.{formula-count, record-of}
-use Rattle.mission_net.proofs.Reading.{start-append, constraints-append, constraints-snoc, records-reads, records-count, right-at, right-first}
+use Rattle.mission_net.proofs.Fitting.{formula-count, contract-of}
+use Rattle.mission_net.proofs.Contracts.{contracts-append, contracts-snoc, contract-reads, contract-count}
+use Rattle.mission_net.proofs.Reading.{start-append, records-reads, records-count, right-at, right-first}
 use Rattle.mission_net.proofs.Enclosing.{AreSound}
 use Rattle.mission_net.proofs.Additions.{added-none, added-then, more-low}
 
 -- ---- the net of the records so far, and what was added to it
 
-pub added-holds : (grid : List ℕ) (before : List Item) (r : Item) (old new : NetState AnyCtc) → IsNetOf grid before old → IsAdded (made before r) (constraints_of grid before r) old new → IsNetOf grid (before ++ r ∷ []) new
+pub added-holds : (grid : List ℕ) (before : List Item) (r : Item) (old new : NetState AnyCtc) → IsNetOf grid before old → IsAdded (made before r) (contracts_of grid before r) old new → IsNetOf grid (before ++ r ∷ []) new
 added-holds grid before r old new holds added =
     let same : old.store.shape.grid ≡ grid = ap (λ (s : Shape). s.grid) holds.shape ∙ shape-grid grid before in
     let box : new.store.box ≡ box_more old.store.box (start_of grid (made before r)) = added.box ∙ ap (λ (g : List ℕ). box_more old.store.box (start_of g (made before r))) same in
     let starts : start grid (before ++ r ∷ []) ≡ start grid before ++ start_of grid (made before r) = start-append grid before (r ∷ []) ∙ ap (λ (os : List Owner). start grid before ++ start_of grid os) (append-nil (made before r)) in record {
       shape = added.shape ∙ ap (λ (s : Shape). with_owners s (made before r)) holds.shape ∙ sym (shape-snoc grid before r);
-      contractors = added.contractors ∙ ap (λ (xs : List (List Constraint)). xs ++ each_alone (constraints_of grid before r)) holds.contractors ∙ sym (map-append (λ (c : Constraint). c ∷ []) (constraints grid before) (constraints_of grid before r))
-          ∙ ap each_alone (sym (constraints-snoc grid before r));
+      contractors = added.contractors ∙ ap (λ (xs : List (List Constraint)). xs ++ each_alone (contracts_of grid before r)) holds.contractors ∙ sym (map-append (λ (c : Constraint). c ∷ []) (contracts grid before) (contracts_of grid before r))
+          ∙ ap each_alone (sym (contracts-snoc grid before r));
       below = subst (λ (b : Option (List Span)). IsBelowBox b (Some (start grid (before ++ r ∷ [])))) (sym box)
           (subst (λ (d : List Span). IsBelowBox (box_more old.store.box (start_of grid (made before r))) (Some d)) (sym starts) (more-low old.store.box (start grid before) (start_of grid (made before r)) holds.below));
     }
@@ -51,14 +51,14 @@ added-holds grid before r old new holds added =
 pub record IsBuiltTo (grid : List ℕ) (items : List Item) (first i : ℕ) (begun net : NetState AnyCtc) (table : Table) : Type 0 where
   pub known : IsTableOf table (take i items)
   pub holds : IsNetOf grid (take i items) net
-  pub added : IsAdded (owners_from (take first items) (drop first (take i items))) (constraints_from grid (take first items) (drop first (take i items))) begun net
+  pub added : IsAdded (owners_from (take first items) (drop first (take i items))) (contracts_from grid (take first items) (drop first (take i items))) begun net
 
 pub built-none : (grid : List ℕ) (items : List Item) (first : ℕ) (net : NetState AnyCtc) (table : Table) → IsTableOf table (take first items) → IsNetOf grid (take first items) net → IsBuiltTo grid items first first net net table
 built-none grid items first net table known holds =
     let none : drop first (take first items) ≡ [] = ap (λ (n : ℕ). drop first (take n items)) (sym (add-zero first)) ∙ drop-take first 0 items in record {
       known = known;
       holds = holds;
-      added = subst (λ (l : List Item). IsAdded (owners_from (take first items) l) (constraints_from grid (take first items) l) net net) (sym none)
+      added = subst (λ (l : List Item). IsAdded (owners_from (take first items) l) (contracts_from grid (take first items) l) net net) (sym none)
           (added-none net);
     }
 
@@ -66,25 +66,25 @@ pub first-part : (first i : ℕ) (items : List Item) → first ≤ i → i ≤ l
 first-part first i items order inside = ap (λ (l : List Item). l ++ drop first (take i items)) (sym (take-take first i items order)) ∙ take-append-drop first (take i items)
 
 pub built-more : (grid : List ℕ) (items : List Item) (first i : ℕ) (x : Item) (begun old new : NetState AnyCtc) (was table : Table) → first ≤ i → i < length items → take (i + 1) items ≡ take i items ++ x ∷ [] → IsBuiltTo grid items first i begun old was → IsTableOf table (take i items ++ x ∷ [])
-    → IsAdded (made (take i items) x) (constraints_of old.store.shape.grid (take i items) x) old new → IsBuiltTo grid items first (i + 1) begun new table
+    → IsAdded (made (take i items) x) (contracts_of old.store.shape.grid (take i items) x) old new → IsBuiltTo grid items first (i + 1) begun new table
 built-more grid items first i x begun old new was table order inside longer built known added =
     let same : old.store.shape.grid ≡ grid = ap (λ (s : Shape). s.grid) built.holds.shape ∙ shape-grid grid (take i items) in
-    let here : IsAdded (made (take i items) x) (constraints_of grid (take i items) x) old new = subst (λ (g : List ℕ). IsAdded (made (take i items) x) (constraints_of g (take i items) x) old new) same added in
+    let here : IsAdded (made (take i items) x) (contracts_of grid (take i items) x) old new = subst (λ (g : List ℕ). IsAdded (made (take i items) x) (contracts_of g (take i items) x) old new) same added in
     let from = take first items in
     let some = drop first (take i items) in
     let part : drop first (take (i + 1) items) ≡ some ++ x ∷ [] = ap (drop first) longer ∙ drop-append-le first (take i items) (x ∷ []) (omega (arith, order, length-take-le i items (omega (arith, inside)))) in
     let before : from ++ some ≡ take i items = first-part first i items order (omega (arith, inside)) in
-    let cs : constraints_from grid from (some ++ x ∷ []) ≡ constraints_from grid from some ++ constraints_of grid (take i items) x =
-    constraints-append grid some (x ∷ []) from ∙ ap (λ (l : List Constraint). constraints_from grid from some ++ l)
-    (append-nil (constraints_of grid (from ++ some) x) ∙ ap (λ (l : List Item). constraints_of grid l x) before) in
+    let cs : contracts_from grid from (some ++ x ∷ []) ≡ contracts_from grid from some ++ contracts_of grid (take i items) x =
+    contracts-append grid some (x ∷ []) from ∙ ap (λ (l : List Constraint). contracts_from grid from some ++ l)
+    (append-nil (contracts_of grid (from ++ some) x) ∙ ap (λ (l : List Item). contracts_of grid l x) before) in
     let os : owners_from from (some ++ x ∷ []) ≡ owners_from from some ++ made (take i items) x =
     owners-append some (x ∷ []) from ∙ ap (λ (l : List Owner). owners_from from some ++ l) (append-nil (made (from ++ some) x) ∙ ap (λ (l : List Item). made l x) before) in record {
       known = subst (IsTableOf table) (sym longer) known;
       holds = subst (λ (l : List Item). IsNetOf grid l new) (sym longer) (added-holds grid (take i items) x old new built.holds here);
-      added = subst (λ (l : List Item). IsAdded (owners_from from l) (constraints_from grid from l) begun new) (sym part)
-          (subst (λ (l : List Owner). IsAdded l (constraints_from grid from (some ++ x ∷ [])) begun new) (sym os)
+      added = subst (λ (l : List Item). IsAdded (owners_from from l) (contracts_from grid from l) begun new) (sym part)
+          (subst (λ (l : List Owner). IsAdded l (contracts_from grid from (some ++ x ∷ [])) begun new) (sym os)
           (subst (λ (l : List Constraint). IsAdded (owners_from from some ++ made (take i items) x) l begun new) (sym cs)
-          (added-then (owners_from from some) (made (take i items) x) (constraints_from grid from some) (constraints_of grid (take i items) x) begun old new built.added here)));
+          (added-then (owners_from from some) (made (take i items) x) (contracts_from grid from some) (contracts_of grid (take i items) x) begun old new built.added here)));
     }
 
 -- ---- the room that the next record asks of the net
@@ -151,40 +151,42 @@ module _ (m : Mission) (is : IsMission m) (i : ℕ) (x : Item) (net : NetState A
       omega (arith, all-cells, grows.cells, ap (λ (s : Shape). s.cells) here)
 
   -- the constraints so far and those of the record, among all
-  so-far : constraints_in net ++ constraints_of m.cuts (take i m.items) x ++ constraints_from m.cuts (take (i + 1) m.items) (drop (i + 1) m.items) ≡ constraints m.cuts m.items
+  so-far : constraints_in net ++ contracts_of m.cuts (take i m.items) x ++ contracts_from m.cuts (take (i + 1) m.items) (drop (i + 1) m.items) ≡ contracts m.cuts m.items
   so-far =
-      ap (λ (l : List Constraint). l ++ constraints_from m.cuts (take (i + 1) m.items) (drop (i + 1) m.items))
-      (ap (λ (xs : List Constraint). xs ++ constraints_of m.cuts (take i m.items) x) (net-constraints m.cuts (take i m.items) net holds) ∙ sym (constraints-snoc m.cuts (take i m.items) x) ∙ ap (constraints m.cuts) (sym longer))
-      ∙ sym (constraints-append m.cuts (take (i + 1) m.items) (drop (i + 1) m.items) []) ∙ ap (constraints m.cuts) (take-append-drop (i + 1) m.items)
+      ap (λ (l : List Constraint). l ++ contracts_from m.cuts (take (i + 1) m.items) (drop (i + 1) m.items))
+      (ap (λ (xs : List Constraint). xs ++ contracts_of m.cuts (take i m.items) x) (net-contracts m.cuts (take i m.items) net holds) ∙ sym (contracts-snoc m.cuts (take i m.items) x) ∙ ap (contracts m.cuts) (sym longer))
+      ∙ sym (contracts-append m.cuts (take (i + 1) m.items) (drop (i + 1) m.items) []) ∙ ap (contracts m.cuts) (take-append-drop (i + 1) m.items)
 
   grid : net.store.shape.grid ≡ m.cuts
   grid = ap (λ (s : Shape). s.grid) holds.shape ∙ shape-grid m.cuts (take i m.items)
 
-  few : length net.contractors + length (constraints_of m.cuts (take i m.items) x) ≤ 4000000000
+  few : length net.contractors + length (contracts_of m.cuts (take i m.items) x) ≤ 4000000000
   few =
       let all = records-count m.version m.ticks m.cuts m.items [] is.right in
       omega (
         arith,
         all,
+        contract-count m.cuts m.items [] (omega (arith, is.clock.grid.slices)),
         is.few.feet,
         is.few.records,
         ap length so-far,
-        length-append (constraints_in net ++ constraints_of m.cuts (take i m.items) x) (constraints_from m.cuts (take (i + 1) m.items) (drop (i + 1) m.items)),
-        length-append (constraints_in net) (constraints_of m.cuts (take i m.items) x),
-        ap length (net-constraints m.cuts (take i m.items) net holds),
+        length-append (constraints_in net ++ contracts_of m.cuts (take i m.items) x) (contracts_from m.cuts (take (i + 1) m.items) (drop (i + 1) m.items)),
+        length-append (constraints_in net) (contracts_of m.cuts (take i m.items) x),
+        ap length (net-contracts m.cuts (take i m.items) net holds),
         net-count m.cuts (take i m.items) net holds,
       )
 
-  room : reads_in m.cuts (constraints_in net) + reads_in m.cuts (constraints_of m.cuts (take i m.items) x) ≤ 20000000
+  room : reads_in m.cuts (constraints_in net) + reads_in m.cuts (contracts_of m.cuts (take i m.items) x) ≤ 20000000
   room =
       let all = records-reads m.version m.ticks m.cuts m.items [] is.right in
       omega (
         arith,
         all,
+        contract-reads m.cuts m.items [] (omega (arith, is.clock.grid.slices)),
         is.few.feet,
         ap (reads_in m.cuts) so-far,
-        sum_by-append (reads_of m.cuts) (constraints_in net ++ constraints_of m.cuts (take i m.items) x) (constraints_from m.cuts (take (i + 1) m.items) (drop (i + 1) m.items)),
-        sum_by-append (reads_of m.cuts) (constraints_in net) (constraints_of m.cuts (take i m.items) x),
+        sum_by-append (reads_of m.cuts) (constraints_in net ++ contracts_of m.cuts (take i m.items) x) (contracts_from m.cuts (take (i + 1) m.items) (drop (i + 1) m.items)),
+        sum_by-append (reads_of m.cuts) (constraints_in net) (contracts_of m.cuts (take i m.items) x),
       )
 
   signals-so-far : length net.store.shape.signals ≡ signals_in (take i m.items)
@@ -200,12 +202,12 @@ module _ (m : Mission) (is : IsMission m) (i : ℕ) (x : Item) (net : NetState A
   few-variables = omega (arith, first-variables m is (i + 1), ap variables_in longer, variables-last (take i m.items) x)
 
   -- the record's constraints are of the shape with its cells
-  all-of : All (IsOf (with_owners net.store.shape (made (take i m.items) x))) (constraints_of m.cuts (take i m.items) x)
+  all-of : All (IsOf (with_owners net.store.shape (made (take i m.items) x))) (contracts_of m.cuts (take i m.items) x)
   all-of =
       let s = net.store.shape in
       let t = with_owners s (made (take i m.items) x) in
       let same : t.grid ≡ m.cuts = (owners-extend (made (take i m.items) x) s).grid ∙ grid in
-      record-of m.version m.ticks m.cuts t (subst IsGrid (sym same) is.clock.grid) same (take i m.items) (first-right m is i) (first-variables m is i) x
+      contract-of m.version m.ticks m.cuts t (subst IsGrid (sym same) is.clock.grid) same (take i m.items) (first-right m is i) (first-variables m is i) x
       (omega (arith, signals-made (take i m.items) x s, signals-so-far)) (omega (arith, variables-made (take i m.items) x s, variables-so-far)) right
 
   pub next-can : CanBuild (take i m.items) x net
@@ -215,9 +217,9 @@ module _ (m : Mission) (is : IsMission m) (i : ℕ) (x : Item) (net : NetState A
         variables = All-bounded (ranges_made (take i m.items) x)
             (made-ranges m.version m.ticks is.clock.few_ticks (take i m.items) x (signals-right m.version m.ticks is.clock.few_ticks (take i m.items) past) (beacons-right m.version m.ticks is.clock.few_ticks (take i m.items) past) right);
         cells = next-cells;
-        of = subst (λ (g : List ℕ). All (IsOf (with_owners net.store.shape (made (take i m.items) x))) (constraints_of g (take i m.items) x)) (sym grid) all-of;
-        few = subst (λ (g : List ℕ). length net.contractors + length (constraints_of g (take i m.items) x) ≤ 4000000000) (sym grid) few;
-        reads = subst (λ (g : List ℕ). reads_in g (constraints_in net) + reads_in g (constraints_of g (take i m.items) x) ≤ 20000000) (sym grid) room;
+        of = subst (λ (g : List ℕ). All (IsOf (with_owners net.store.shape (made (take i m.items) x))) (contracts_of g (take i m.items) x)) (sym grid) all-of;
+        few = subst (λ (g : List ℕ). length net.contractors + length (contracts_of g (take i m.items) x) ≤ 4000000000) (sym grid) few;
+        reads = subst (λ (g : List ℕ). reads_in g (constraints_in net) + reads_in g (contracts_of g (take i m.items) x) ≤ 20000000) (sym grid) room;
         taken = taken m.version m.ticks (take i m.items) x (first-signals m is i) right;
         bindable = bindable m.version m.ticks (take i m.items) x right;
         beacon = marked m.version m.ticks (take i m.items) x right;

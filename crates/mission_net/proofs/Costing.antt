@@ -1,6 +1,7 @@
 -- The bound of settling, in the words of the records.
-use Rattle.std.proofs.Common.{◌≡◌, ℕ, zero, suc, ◌+◌, ◌*◌, ◌-◌, ◌≤◌, Bool, true, false, cond, Option, Some, None, List, [], ◌∷◌, ◌++◌, All, IsSome, arith, refl, sym, ap, ap₂, subst, ◌∙◌, flat_map, length, take, drop, replicate, sum_by, count_by, zero-add}
+use Rattle.std.proofs.Common.{◌≡◌, ℕ, zero, suc, ◌+◌, ◌*◌, ◌-◌, ◌≤◌, Bool, true, false, cond, Option, Some, None, List, [], ◌∷◌, ◌++◌, All, IsSome, arith, refl, sym, ap, ap₂, ◌∙◌, flat_map, length, take, drop, replicate, count_by, zero-add}
 use Rattle.std.specs.Prelude.{IsFalse}
+use Rattle.std.proofs.Math.Nat.{mul-le-mul_left}
 use Rattle.std.proofs.lemmas.List.Elements.{All-head, All-tail}
 use Rattle.std.proofs.lemmas.List.Sums.{sum_by-cons, sum_by-append}
 use Rattle.tube_spec.specs.Span.{Span, width_of}
@@ -12,10 +13,11 @@ use Rattle.any_ctc.specs.Constraints.{Constraint, constraint_scope}
 use Rattle.any_ctc.specs.declared.AnyCtc.{AnyCtc}
 use Rattle.any_ctc.specs.Contractors.{constraint_of, any_scope}
 use Rattle.mission_items.specs.declared.item.Item.{Item}
-use Rattle.mission_net.specs.Records.{shape_by, constraints_from, constraints}
+use Rattle.mission_net.specs.Records.{constraints_from, contracts_from}
 use Rattle.mission_net.specs.Building.{stands_for, IsNetOf}
 use Rattle.mission_net.specs.Costs.{readers_in, section_cost}
-use Rattle.mission_net.proofs.Numbers.{net-constraints}
+use Rattle.mission_net.proofs.Numbers.{net-contracts}
+use Rattle.mission_net.proofs.Contracts.{contract-count, contract-readers}
 
 -- nobody of these waits
 none-wait : (ws : List Bool) → All IsFalse ws → count_by (λ (w : Bool). w) ws ≡ 0
@@ -40,25 +42,30 @@ readers-by s (Some c ∷ cs) cell =
     sum_by-cons (λ (d : Option AnyCtc). cond (reads_by (of_place any_scope) s d cell) 1 0) (Some c) cs ∙ ap (λ (n : ℕ). cond (reads_by any_scope s c cell) 1 0 + n) (readers-by s cs cell)
     ∙ sym (sum_by-cons (λ (d : Constraint). cond (reads_by (λ (e : Constraint) (t : Shape). constraint_scope t e) s d cell) 1 0) (constraint_of c) (flat_map stands_for cs))
 
-pub net-readers : (grid : List ℕ) (items : List Item) (net : NetState AnyCtc) → IsNetOf grid items net → (cell : ℕ) → readers_of (of_place any_scope) net.store.shape net.contractors cell ≡ readers_in grid items cell
-net-readers grid items net holds cell =
-    readers-by net.store.shape net.contractors cell
-    ∙ ap₂ (λ (s : Shape) (cs : List Constraint). readers_of (λ (d : Constraint) (t : Shape). constraint_scope t d) s cs cell) holds.shape (net-constraints grid items net holds)
+pub net-readers : (grid : List ℕ) (items : List Item) (net : NetState AnyCtc) → 1 ≤ length grid - 1 → IsNetOf grid items net → (cell : ℕ) → readers_of (of_place any_scope) net.store.shape net.contractors cell ≤ readers_in grid items cell
+net-readers grid items net some holds cell =
+    let all = readers-by net.store.shape net.contractors cell
+    ∙ ap₂ (λ (s : Shape) (cs : List Constraint). readers_of (λ (d : Constraint) (t : Shape). constraint_scope t d) s cs cell) holds.shape (net-contracts grid items net holds) in
+    omega (arith, all, contract-readers grid items cell some)
 
--- the same readers give the same cost
-weighted-same : (r t : ℕ → ℕ) → ((k : ℕ) → r k ≡ t k) → (xs : List Span) → weighted r xs ≡ weighted t xs
-weighted-same r t e [] = refl
-weighted-same r t e (x ∷ xs) = ap₂ (λ (n m : ℕ). width_of x * (1 + n) + m) (e 0) (weighted-same (λ k. r (suc k)) (λ k. t (suc k)) (λ k. e (suc k)) xs)
+sum-less : (w a b m n : ℕ) → a ≤ b → m ≤ n → w * (1 + a) + m ≤ w * (1 + b) + n
+sum-less w a b m n h k = let p : w * (1 + a) ≤ w * (1 + b) = mul-le-mul_left w (omega (arith, h)) in omega (arith, p, k)
 
-lost-same : (r t : ℕ → ℕ) → ((k : ℕ) → r k ≡ t k) → (xs ys : List Span) → lost_widths r xs ys ≡ lost_widths t xs ys
-lost-same r t e [] ys = refl
-lost-same r t e (x ∷ xs) [] = refl
-lost-same r t e (x ∷ xs) (y ∷ ys) = ap₂ (λ (n m : ℕ). (width_of x - width_of y) * (1 + n) + m) (e 0) (lost-same (λ k. r (suc k)) (λ k. t (suc k)) (λ k. e (suc k)) xs ys)
+-- fewer readers give no more cost
+weighted-less : (r t : ℕ → ℕ) → ((k : ℕ) → r k ≤ t k) → (xs : List Span) → weighted r xs ≤ weighted t xs
+weighted-less r t e [] = omega arith
+weighted-less r t e (x ∷ xs) = sum-less (width_of x) (r 0) (t 0) (weighted (λ k. r (suc k)) xs) (weighted (λ k. t (suc k)) xs) (e 0) (weighted-less (λ k. r (suc k)) (λ k. t (suc k)) (λ k. e (suc k)) xs)
 
-pub cost-same : (r t : ℕ → ℕ) → ((k : ℕ) → r k ≡ t k) → (old new : Option (List Span)) → lost_cost r old new ≡ lost_cost t old new
-cost-same r t e None new = refl
-cost-same r t e (Some xs) None = weighted-same r t e xs
-cost-same r t e (Some xs) (Some ys) = lost-same r t e xs ys
+lost-less : (r t : ℕ → ℕ) → ((k : ℕ) → r k ≤ t k) → (xs ys : List Span) → lost_widths r xs ys ≤ lost_widths t xs ys
+lost-less r t e [] ys = omega arith
+lost-less r t e (x ∷ xs) [] = omega arith
+lost-less r t e (x ∷ xs) (y ∷ ys) =
+    sum-less (width_of x - width_of y) (r 0) (t 0) (lost_widths (λ k. r (suc k)) xs ys) (lost_widths (λ k. t (suc k)) xs ys) (e 0) (lost-less (λ k. r (suc k)) (λ k. t (suc k)) (λ k. e (suc k)) xs ys)
+
+cost-less : (r t : ℕ → ℕ) → ((k : ℕ) → r k ≤ t k) → (old new : Option (List Span)) → lost_cost r old new ≤ lost_cost t old new
+cost-less r t e None new = omega arith
+cost-less r t e (Some xs) None = weighted-less r t e xs
+cost-less r t e (Some xs) (Some ys) = lost-less r t e xs ys
 
 -- the cost of a section whose start is not empty
 pub started-cost : (grid : List ℕ) (items : List Item) (first upto : ℕ) (start box : Option (List Span)) → IsSome start
@@ -72,17 +79,18 @@ more-some (Some xs) more h = refl
 
 -- what settling the built net takes is at most the cost of the section
 pub section-bound : (grid : List ℕ) (items : List Item) (first upto : ℕ) (box : Option (List Span)) (more : List Span) (built : NetState AnyCtc) (new : Option (List Span)) (ws : List Bool) (before now : ℕ)
-    → IsNetOf grid (take upto items) built → built.store.box ≡ box_more box more
-    → built.waiting ≡ ws ++ replicate (length (constraints_from grid (take first items) (drop first (take upto items)))) true → (IsSome box → All IsFalse ws)
+    → 1 ≤ length grid - 1 → IsNetOf grid (take upto items) built → built.store.box ≡ box_more box more
+    → built.waiting ≡ ws ++ replicate (length (contracts_from grid (take first items) (drop first (take upto items)))) true → (IsSome box → All IsFalse ws)
     → ((box ≡ None) → now ≡ before) → now ≤ before + count_by (λ (w : Bool). w) built.waiting + lost_cost (readers_of (of_place any_scope) built.store.shape built.contractors) built.store.box new
     → now ≤ before + section_cost grid items first upto (box_more box more) new
-section-bound grid items first upto None more built new ws before now holds at waiting rest still bound = omega (arith, still refl)
-section-bound grid items first upto (Some xs) more built new ws before now holds at waiting rest still bound =
-    let added = length (constraints_from grid (take first items) (drop first (take upto items))) in
+section-bound grid items first upto None more built new ws before now some holds at waiting rest still bound = omega (arith, still refl)
+section-bound grid items first upto (Some xs) more built new ws before now some holds at waiting rest still bound =
+    let added = length (contracts_from grid (take first items) (drop first (take upto items))) in
     let start = box_more (Some xs) more in
     let wait : count_by (λ (w : Bool). w) built.waiting ≡ added = ap (λ (l : List Bool). count_by (λ (w : Bool). w) l) waiting ∙ added-wait ws added (rest refl) in
-    let lost : lost_cost (readers_of (of_place any_scope) built.store.shape built.contractors) built.store.box new ≡ lost_cost (readers_in grid (take upto items)) start new =
-    cost-same (readers_of (of_place any_scope) built.store.shape built.contractors) (readers_in grid (take upto items)) (net-readers grid (take upto items) built holds) built.store.box new
-    ∙ ap (λ (b : Option (List Span)). lost_cost (readers_in grid (take upto items)) b new) at in
+    let few = contract-count grid (drop first (take upto items)) (take first items) some in
+    let lost : lost_cost (readers_of (of_place any_scope) built.store.shape built.contractors) built.store.box new ≤ lost_cost (readers_in grid (take upto items)) built.store.box new =
+    cost-less (readers_of (of_place any_scope) built.store.shape built.contractors) (readers_in grid (take upto items)) (net-readers grid (take upto items) built some holds) built.store.box new in
+    let there = ap (λ (b : Option (List Span)). lost_cost (readers_in grid (take upto items)) b new) at in
     let cost = started-cost grid items first upto start new (more-some (Some xs) more refl) in
-    omega (arith, bound, wait, lost, cost)
+    omega (arith, bound, wait, few, lost, there, cost)

@@ -1,8 +1,8 @@
 -- A small mission that a log could have: a signal with a rate, a measurement, and its value at an uncertain tick.
-use Rattle.std.proofs.Common.{◌≡◌, ◌≢◌, ℕ, ◌<◌, ◌≤◌, List, [], ◌∷◌, ◌++◌, All, inl, refl, sym, ap, ap₂, ◌∙◌, subst, arith, pos, length, true, lit≤}
+use Rattle.std.proofs.Common.{◌≡◌, ℕ, ◌≤◌, List, [], ◌∷◌, ◌++◌, inl, refl, sym, ap, ap₂, ◌∙◌, subst, arith, pos, length, true, lit≤}
 use Rattle.std.proofs.lemmas.List.Elements.{All-from_recursion}
 use Rattle.std.proofs.lemmas.Int.{ints}
-use Rattle.tube_spec.specs.Span.{Span, point}
+use Rattle.tube_spec.specs.Span.{Span}
 use Rattle.tube_spec.specs.Grid.{IsGrid, last_tick}
 use Rattle.slice_gates.specs.Cuts.{uniform_cuts}
 use Rattle.tube_store.specs.declared.SignalId.{SignalId}

@@ -30,8 +30,8 @@ use Rattle.mission_items.specs.Names.{leaf_at, IsNamed}
 use Rattle.mission_items.specs.Valid.{is_variable, AreRadii, AreRight, AreRightFrom, AreVariables, IsFormula, IsMark, IsRight}
 use Rattle.mission_items.proofs.Making.{signals-append}
 use Rattle.mission_items.proofs.Standing.{leaves-found, named-below, IsLeafIn}
-use Rattle.any_ctc.specs.Constraints.{Constraint, SliceOf, DerivOf, BoundOf, DelayToOf, DelayFromOf, DelayShiftOf, DistOf, ConstellOf, ExprOf, IsOf}
-use Rattle.mission_net.specs.Records.{constraints_of, evaluation, formula_at, formula_constraints, mark_constraints, marks_in, ping_constraints, point_at, target_of}
+use Rattle.any_ctc.specs.Constraints.{Constraint, SliceOf, SlicesOf, DerivOf, DerivsOf, BoundOf, DelayToOf, DelayFromOf, DelayShiftOf, DistOf, ConstellOf, ExprOf, IsOf}
+use Rattle.mission_net.specs.Records.{constraints_of, contracts_of, evaluation, formula_at, formula_constraints, mark_constraints, marks_in, ping_constraints, point_at, target_of}
 use Rattle.any_ctc.proofs.Stable.{IsFormulaOf, IsWritten}
 use Rattle.mission_net.proofs.Beacons.{length-marks_in, mark-at, marks-below, point-below, IsPointBelow}
 
@@ -260,6 +260,15 @@ module _ (version end : ℕ) (grid : List ℕ) (t : Shape) (is : IsGrid t.grid) 
       let all = leaves-found before (relation_names formula) ls good.0.stands in
       All-one (IsOf t) (ExprOf Once ls (comparison_of formula)) (all-once t before (omega (arith, signals)) (omega (arith, variables)) ls good.1 all)
   record-of r signals variables good = All-nil (IsOf t)
+
+  -- what a net adds for it fits too
+  pub contract-of : (r : Item) → signals_in before + signals_made r ≤ length t.signals → variables_in before + variables_made r ≤ length t.vars → IsRight version end before r → All (IsOf t) (contracts_of grid before r)
+  contract-of (item.Signal name range) signals variables good = All-one (IsOf t) (SlicesOf (signals_in before)) (omega (arith, signals))
+  contract-of (item.Deriv x rate) signals variables good =
+      let some = good.0 in
+      let other = good.1 in
+      All-one (IsOf t) (DerivsOf x.0 rate.0) (omega (arith, some, signals), omega (arith, other, signals))
+  contract-of r signals variables good = record-of r signals variables good
 
   pub record-written : (r : Item) → IsRight version end before r → All IsWritten (constraints_of grid before r)
   record-written (item.Signal name range) good = All-each_below IsWritten (λ i. SliceOf (signals_in before) i ∷ []) (length grid - 1) (λ i li. All-one IsWritten (SliceOf (signals_in before) i) tt)

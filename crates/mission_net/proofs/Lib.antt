@@ -1,5 +1,6 @@
 pub mod Shapes
 pub mod Numbers
+pub mod Contracts
 pub mod Counts
 pub mod Beacons
 pub mod Reading

@@ -7,7 +7,7 @@ use Rattle.ctc_network.specs.Nets.{NetState}
 use Rattle.mission_items.specs.declared.item.Item.{Item}
 use Rattle.any_ctc.specs.Constraints.{Constraint}
 use Rattle.any_ctc.specs.declared.AnyCtc.{AnyCtc}
-use Rattle.mission_net.specs.Records.{constraints}
+use Rattle.mission_net.specs.Records.{contracts}
 use Rattle.mission_net.specs.Building.{stands_for, constraints_in, each_alone, IsNetOf, IsAdded}
 
 -- what is in the lists of one each
@@ -20,14 +20,14 @@ standing [] = refl
 standing (c ∷ cs) = ap (λ (l : List Constraint). stands_for c ++ l) (standing cs)
 
 -- the constraints of a net's contractors, in order
-pub net-constraints : (grid : List ℕ) (items : List Item) (net : NetState AnyCtc) → IsNetOf grid items net → constraints_in net ≡ constraints grid items
-net-constraints grid items net holds =
-    sym (standing net.contractors) ∙ ap (flat_map (λ (l : List Constraint). l)) holds.contractors ∙ members (constraints grid items)
+pub net-contracts : (grid : List ℕ) (items : List Item) (net : NetState AnyCtc) → IsNetOf grid items net → constraints_in net ≡ contracts grid items
+net-contracts grid items net holds =
+    sym (standing net.contractors) ∙ ap (flat_map (λ (l : List Constraint). l)) holds.contractors ∙ members (contracts grid items)
 
 -- how many numbers the net of some records has given
-pub net-count : (grid : List ℕ) (items : List Item) (net : NetState AnyCtc) → IsNetOf grid items net → length net.contractors ≡ length (constraints grid items)
+pub net-count : (grid : List ℕ) (items : List Item) (net : NetState AnyCtc) → IsNetOf grid items net → length net.contractors ≡ length (contracts grid items)
 net-count grid items net holds =
-    omega (arith, ap length holds.contractors, length-map net.contractors stands_for, length-map (constraints grid items) (λ (c : Constraint). c ∷ []))
+    omega (arith, ap length holds.contractors, length-map net.contractors stands_for, length-map (contracts grid items) (λ (c : Constraint). c ∷ []))
 
 -- additions, in the words of the constraints
 pub added-in : (os : List Owner) (cs : List Constraint) (a b : NetState AnyCtc) → IsAdded os cs a b → constraints_in b ≡ constraints_in a ++ cs

@@ -25,13 +25,16 @@ use Rattle.mission_items.specs.Made.{beacons_in, rate_in, signals_in, ticks_from
 use Rattle.mission_items.specs.Room.{evaluated, evaluation_foot, feet_from, mark_foot, foot_of, slices_near, touching}
 use Rattle.mission_items.specs.Valid.{IsInPlace, IsMark, IsRight, AreRight, AreRightFrom}
 use Rattle.ctc_deriv.specs.Bounds.{each_below}
+use Rattle.ctc_parts.specs.Parts as parts
+use Rattle.ctc_parts.proofs.Members.{single-length}
 use Rattle.slice_gates.specs.Near.{near_of, places_of}
 use Rattle.ctc_eval.specs.Evals.{cells_near, rate_scope}
 use Rattle.ctc_delay.specs.Places.{place_count, signal_cells}
 use Rattle.ctc_delay.specs.DelayLaws.{length-each_place}
 use Rattle.tube_names.specs.Points.{numbers, cells_of as point_cells}
 use Rattle.tube_store.specs.declared.VarId.{VarId}
-use Rattle.any_ctc.specs.Constraints.{Constraint, SliceOf, DerivOf, BoundOf, EvalOf, DelayToOf, DelayFromOf, DelayShiftOf, DistOf, ConstellOf, ExprOf, constraint_scope, reads_near, rate_reads, reads_of, reads_in}
+use Rattle.any_ctc.specs.Constraints.{Constraint, SliceOf, SlicesOf, DerivOf, DerivsOf, BoundOf, EvalOf, DelayToOf, DelayFromOf, DelayShiftOf, DistOf, ConstellOf, ExprOf, constraint_scope, reads_near, rate_reads, reads_of, reads_in}
+use Rattle.any_ctc.proofs.Written.{each-reads, each-length}
 use Rattle.any_ctc.specs.declared.AnyCtc.{AnyCtc}
 use Rattle.any_ctc.specs.Contractors.{constraint_of, any_scope}
 use Rattle.ctc_network.specs.Nets.{entries_of, of_place}
@@ -96,14 +99,6 @@ pub shape-is : (grid : List ℕ) (items : List Item) → IsShape (no_shape grid)
 shape-is grid items is few = shape-more (owners items) (no_shape grid) is few
 
 -- ---- how many cells constraints read, and how many constraints there are
-
-pub each-reads : (grid : List ℕ) (f : ℕ → Constraint) (m : ℕ) → ((i : ℕ) → reads_of grid (f i) ≡ m) → (n : ℕ) → reads_in grid (each_below (λ i. f i ∷ []) n) ≡ m * n
-each-reads grid f m h zero = omega arith
-each-reads grid f m h (suc n) = sum_by_push (reads_of grid) (each_below (λ i. f i ∷ []) n) (f n) ∙ omega (arith, each-reads grid f m h n, h n)
-
-pub each-length : {X : Type 0} (f : ℕ → X) (n : ℕ) → length (each_below (λ i. f i ∷ []) n) ≡ n
-each-length f zero = refl
-each-length f (suc n) = length-append (each_below (λ i. f i ∷ []) n) (f n ∷ []) ∙ omega (arith, each-length f n)
 
 -- what a record's constraints read is within its foot, and there is at most one more of them
 pub record IsSmall (grid : List ℕ) (cs : List Constraint) (foot : ℕ) : Type 0 where
@@ -221,7 +216,12 @@ concat-length s (m ∷ ms) =
 
 pub scope-length : (s : Shape) (c : Constraint) → length (constraint_scope s c) ≡ reads_of s.grid c
 scope-length s (SliceOf signal i) = refl
+scope-length s (SlicesOf signal) = single-length (λ k. slice_index s.signals signal + k) (2 * length s.grid - 1)
 scope-length s (DerivOf x rate i) = refl
+scope-length s (DerivsOf x rate) =
+    let own = parts.each_below (λ k. (slice_index s.signals x + 2 * k) ∷ []) (length s.grid) in
+    let rates = parts.each_below (λ k. (slice_index s.signals rate + 1 + k) ∷ []) (2 * (length s.grid - 1)) in
+    omega (arith, length-append own rates, single-length (λ k. slice_index s.signals x + 2 * k) (length s.grid), single-length (λ k. slice_index s.signals rate + 1 + k) (2 * (length s.grid - 1)))
 scope-length s (BoundOf x first last range) = refl
 scope-length s (EvalOf x rate t z declared) = omega (arith, length-append (cells_near s declared x) (rate_scope s rate declared), near-length s declared x, rate-length s rate declared)
 scope-length s (DelayToOf x y tau) =

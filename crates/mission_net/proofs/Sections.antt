@@ -1,8 +1,8 @@
 -- Sections: what settling the net of further records gives.
-use Rattle.std.proofs.Common.{◌≡◌, ℕ, zero, suc, ◌≤◌, Option, Some, None, List, [], ◌∷◌, ◌++◌, arith, refl, sym, ap, ap₂, subst, ◌∙◌, map, flat_map, take, drop, IsSome, IsNone, IsSomeAnd, IfSome, slice_get, sum_by, option_map, append-nil, length, ◌+◌, ◌*◌, ◌<◌}
+use Rattle.std.proofs.Common.{◌≡◌, ℕ, zero, suc, ◌≤◌, Option, Some, None, List, [], ◌∷◌, ◌++◌, arith, refl, sym, ap, ap₂, subst, ◌∙◌, map, flat_map, take, drop, IsSome, IsNone, IsSomeAnd, IfSome, slice_get, option_map, append-nil, length, ◌+◌, ◌*◌, ◌<◌}
 use Rattle.std.proofs.lemmas.List.Elements.{All-nil}
 use Rattle.std.proofs.lemmas.List.{take-append-drop}
-use Rattle.tube_spec.specs.Span.{Span, IsBounded, width_of}
+use Rattle.tube_spec.specs.Span.{Span}
 use Rattle.tube_spec.specs.Grid.{IsGrid, last_tick}
 use Rattle.tube_spec.specs.Shape.{Shape, IsShape, Extends, no_shape}
 use Rattle.tube_spec.specs.Box.{IsBox, AreBounded, IsBelowBox, box_more, measure_of}
@@ -20,16 +20,18 @@ use Rattle.ctc_network.specs.declared.answers.Settled.TheVariants.{Fixpoint, Emp
 use Rattle.ctc_network.proofs.Schedules.{section-keeps}
 use Rattle.mission_items.specs.declared.item.Item.{Item}
 use Rattle.mission_items.specs.declared.mission.Mission.{Mission}
-use Rattle.mission_items.specs.Valid.{AreRight, IsMission}
+use Rattle.mission_items.specs.Valid.{IsMission}
 use Rattle.mission_items.proofs.Making.{variables-append}
-use Rattle.any_ctc.specs.Constraints.{Constraint, constraint_projections, constraint_scope, IsOf}
+use Rattle.any_ctc.specs.Constraints.{Constraint, constraint_projections, constraint_scope, written_of, IsOf}
+use Rattle.any_ctc.proofs.Written.{written-projections}
 use Rattle.any_ctc.specs.ConstraintLaws.{constraint-reads_only, constraint-in_store, constraint-more, constraint-same_projections}
-use Rattle.mission_net.specs.Records.{owners_from, shape_by, start, constraints_from, constraints, projections, IsSection, IsEnclosure, Encloses}
+use Rattle.mission_net.specs.Records.{owners_from, shape_by, start, constraints_from, constraints, contracts, projections, IsEnclosure}
 use Rattle.any_ctc.specs.declared.AnyCtc.{AnyCtc}
 use Rattle.any_ctc.specs.Contractors.{constraint_of, any_projections}
-use Rattle.mission_net.specs.Building.{stands_for, IsNetOf, IsAdded, IsSectionAs, IsSpentAs}
+use Rattle.mission_net.specs.Building.{stands_for, each_alone, IsNetOf, IsAdded, IsSectionAs, IsSpentAs}
 use Rattle.mission_net.specs.Laws.{StartedLaw, SettledLaw, EnclosingLaw}
-use Rattle.mission_net.proofs.Numbers.{net-constraints}
+use Rattle.mission_net.proofs.Numbers.{net-contracts}
+use Rattle.mission_net.proofs.Contracts.{contract-projections}
 use Rattle.mission_net.proofs.Shapes.{shape-extends, shape-grid}
 use Rattle.mission_net.proofs.Enclosing.{records-of, section-encloses, enclosure-encloses, AreSound}
 use Rattle.mission_net.proofs.Counts.{cells-count}
@@ -77,15 +79,21 @@ places-projections s [] = refl
 places-projections s (None ∷ cs) = places-projections s cs
 places-projections s (Some c ∷ cs) = ap (λ (ps : List Projection). any_projections c s ++ ps) (places-projections s cs)
 
-place-projections : (s : Shape) (place : Option AnyCtc) → flat_map (constraint_projections s) (stands_for place) ≡ of_place any_projections place s
+-- the same in the words of the written constraints
+place-projections : (s : Shape) (place : Option AnyCtc) → flat_map (constraint_projections s) (flat_map (written_of s.grid) (stands_for place)) ≡ of_place any_projections place s
 place-projections s None = refl
-place-projections s (Some c) = append-nil (constraint_projections s (constraint_of c))
+place-projections s (Some c) = ap (flat_map (constraint_projections s)) (append-nil (written_of s.grid (constraint_of c))) ∙ written-projections s (constraint_of c)
+
+written-alone : (grid : List ℕ) (cs : List Constraint) → map (flat_map (written_of grid)) (each_alone cs) ≡ map (written_of grid) cs
+written-alone grid [] = refl
+written-alone grid (c ∷ cs) = ap₂ (λ (x : List Constraint) (xs : List (List Constraint)). x ∷ xs) (append-nil (written_of grid c)) (written-alone grid cs)
 
 -- the projections of a net's contractors are those of its records
 pub net-projections : (grid : List ℕ) (items : List Item) (net : NetState AnyCtc) → IsNetOf grid items net → flat_map (λ c. of_place any_projections c net.store.shape) net.contractors ≡ projections grid items
 net-projections grid items net holds =
     places-projections net.store.shape net.contractors
-    ∙ ap₂ (λ (s : Shape) (cs : List Constraint). flat_map (constraint_projections s) cs) holds.shape (net-constraints grid items net holds)
+    ∙ ap₂ (λ (s : Shape) (cs : List Constraint). flat_map (constraint_projections s) cs) holds.shape (net-contracts grid items net holds)
+    ∙ contract-projections (shape_by grid items) grid items (shape-grid grid items)
 
 -- a box that a contractor still narrows is not empty
 still-some : {C : Type 0} (projections : C → List Projection) (cs : List C) (box : Option (List Span)) (k : ℕ) → StillNarrows projections cs box k → IsSome box
@@ -134,9 +142,11 @@ spent-as grid items budget net new (Spent id) holds settles =
     let fell = settles.1 in (
       fell,
       (
-        stands_for still.0,
-        subst (λ (cs : List (List Constraint)). slice_get cs id.0 ≡ Some (stands_for still.0)) holds.contractors (get-map stands_for net.contractors id.0 still.0 still.1),
-        subst (λ (ps : List Projection). IsSomeAnd new.box (λ xs. IsFixpoint ps xs → ⊥)) (sym (place-projections (shape_by grid items) still.0))
+        flat_map (written_of grid) (stands_for still.0),
+        subst (λ (cs : List (List Constraint)). slice_get cs id.0 ≡ Some (flat_map (written_of grid) (stands_for still.0))) (ap (map (flat_map (written_of grid))) holds.contractors ∙ written-alone grid (contracts grid items))
+            (get-map (flat_map (written_of grid)) (map stands_for net.contractors) id.0 (stands_for still.0) (get-map stands_for net.contractors id.0 still.0 still.1)),
+        subst (λ (ps : List Projection). IsSomeAnd new.box (λ xs. IsFixpoint ps xs → ⊥))
+            (sym (ap (λ (g : List ℕ). flat_map (constraint_projections (shape_by grid items)) (flat_map (written_of g) (stands_for still.0))) (sym (shape-grid grid items)) ∙ place-projections (shape_by grid items) still.0))
             (subst (λ (s : Shape). IsSomeAnd new.box (λ xs. IsFixpoint (of_place any_projections still.0 s) xs → ⊥)) holds.shape still.2),
       ),
     )

@@ -9,7 +9,7 @@ use Rattle.mission_items.specs.declared.item.Item.{Item}
 use Rattle.mission_items.specs.Made.{ranges_made, signal_made, signal_ranges, signals_in, variable_ranges, variables_in}
 use Rattle.mission_items.proofs.Making.{length-signal_ranges, length-variable_ranges, signal_ranges-last, signals-last, variable_ranges-last, variables-last}
 use Rattle.any_ctc.specs.Constraints.{Constraint, reads_in, IsOf}
-use Rattle.mission_net.specs.Records.{constraints_of, made}
+use Rattle.mission_net.specs.Records.{contracts_of, made}
 use Rattle.mission_net.specs.Tables.{IsTableOf, Table}
 use Rattle.mission_net.specs.Building.{CanAdd, CanBuild, IsAdded, IsBeside}
 use Rattle.any_ctc.specs.declared.AnyCtc.{AnyCtc}
@@ -67,14 +67,14 @@ module _ (before : List Item) (r : Item) (t u : Table) (was : IsTableOf t before
     );
   }
 
-pub cells-can : (before : List Item) (r : Item) (a b : NetState AnyCtc) → CanBuild before r a → IsAdded (made before r) [] a b → CanAdd (constraints_of b.store.shape.grid before r) b
+pub cells-can : (before : List Item) (r : Item) (a b : NetState AnyCtc) → CanBuild before r a → IsAdded (made before r) [] a b → CanAdd (contracts_of b.store.shape.grid before r) b
 cells-can before r a b can added =
     let same = added-grid (made before r) [] a b added in
     let count = none-few (made before r) a b added in
     let read = none-reads (made before r) a b added in
-    let cs : constraints_of b.store.shape.grid before r ≡ constraints_of a.store.shape.grid before r = ap (λ (g : List ℕ). constraints_of g before r) same in
+    let cs : contracts_of b.store.shape.grid before r ≡ contracts_of a.store.shape.grid before r = ap (λ (g : List ℕ). contracts_of g before r) same in
     subst (λ (l : List Constraint). CanAdd l b) (sym cs) (record {
-      of = subst (λ (s : Shape). All (IsOf s) (constraints_of a.store.shape.grid before r)) (sym added.shape) can.of;
+      of = subst (λ (s : Shape). All (IsOf s) (contracts_of a.store.shape.grid before r)) (sym added.shape) can.of;
       few = omega (arith, can.few, count);
-      reads = omega (arith, can.reads, read, ap (λ (g : List ℕ). reads_in g (constraints_of a.store.shape.grid before r)) same);
+      reads = omega (arith, can.reads, read, ap (λ (g : List ℕ). reads_in g (contracts_of a.store.shape.grid before r)) same);
     })

@@ -16,16 +16,16 @@ use Rattle.mission_items.specs.Made.{ranges_made, signal_made, signals_in, signa
 use Rattle.mission_items.specs.Valid.{IsMark}
 use Rattle.mission_net.specs.Tables.{IsTaken, Table}
 use Rattle.any_ctc.specs.Constraints.{Constraint, constraint_projections, reads_in, IsOf}
-use Rattle.mission_net.specs.Records.{constraints_of, made, shape_by, start, contractors_of, IsSection, IsEnclosure}
+use Rattle.mission_net.specs.Records.{contracts_of, contracts, made, shape_by, start, contractors_of, IsSection, IsEnclosure}
 use Rattle.any_ctc.specs.declared.AnyCtc.{AnyCtc}
 use Rattle.any_ctc.specs.Contractors.{constraint_of}
 
--- the constraints that what stands under a number of a net stands for: those of the contractor, if there is one
+-- what stands under a number of a net, as a constraint: that of the contractor, if there is one
 abbrev pub stands_for : Option AnyCtc → List Constraint
 stands_for None = []
 stands_for (Some c) = constraint_of c ∷ []
 
--- the constraints that the contractors of a net stand for, in the order of their numbers
+-- the constraints of a net's contractors, in the order of their numbers
 abbrev pub constraints_in : NetState AnyCtc → List Constraint
 constraints_in net = flat_map stands_for net.contractors
 
@@ -36,7 +36,7 @@ each_alone cs = map (λ c. c ∷ []) cs
 -- A net has exactly the cells and the contractors of the records, these under their numbers, and its box lies below their declared ranges.
 pub record IsNetOf (grid : List ℕ) (items : List Item) (net : NetState AnyCtc) : Type 0 where
   pub shape : net.store.shape ≡ shape_by grid items
-  pub contractors : map stands_for net.contractors ≡ contractors_of grid items
+  pub contractors : map stands_for net.contractors ≡ each_alone (contracts grid items)
   pub below : IsBelowBox net.store.box (Some (start grid items))
 
 -- What additions make of a net: further cells at their declared ranges, and further contractors, which wait; of the others those that waited.
@@ -78,9 +78,9 @@ pub record CanBuild (before : List Item) (r : Item) (net : NetState AnyCtc) : Ty
   pub signals : All (IsBounded greatest_bound) (signal_made r)
   pub variables : All (IsBounded greatest_bound) (ranges_made before r)
   pub cells : (with_owners net.store.shape (made before r)).cells ≤ most_cells
-  pub of : All (IsOf (with_owners net.store.shape (made before r))) (constraints_of net.store.shape.grid before r)
-  pub few : length net.contractors + length (constraints_of net.store.shape.grid before r) ≤ 4000000000
-  pub reads : reads_in net.store.shape.grid (constraints_in net) + reads_in net.store.shape.grid (constraints_of net.store.shape.grid before r) ≤ most_reads
+  pub of : All (IsOf (with_owners net.store.shape (made before r))) (contracts_of net.store.shape.grid before r)
+  pub few : length net.contractors + length (contracts_of net.store.shape.grid before r) ≤ 4000000000
+  pub reads : reads_in net.store.shape.grid (constraints_in net) + reads_in net.store.shape.grid (contracts_of net.store.shape.grid before r) ≤ most_reads
   pub taken : IsTaken before r
   pub bindable : IsBindable r
   pub beacon : HasBeacon before r

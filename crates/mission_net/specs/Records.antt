@@ -19,7 +19,7 @@ use Rattle.expr_hc4.specs.declared.places.Place.TheVariants.{Gate, Envelope, Onc
 use Rattle.mission_items.specs.declared.item.Item.{Item}
 use Rattle.mission_items.specs.declared.item.Item.TheVariants as item
 use Rattle.mission_items.specs.Made.{ranges_made, rate_in, signal_made, signals_in, ticks_from, variable_range, variables_in}
-use Rattle.any_ctc.specs.Constraints.{Constraint, SliceOf, DerivOf, BoundOf, EvalOf, DelayToOf, DelayFromOf, DelayShiftOf, DistOf, ConstellOf, ExprOf, constraint_projections}
+use Rattle.any_ctc.specs.Constraints.{Constraint, SliceOf, DerivOf, BoundOf, EvalOf, DelayToOf, DelayFromOf, DelayShiftOf, DistOf, ConstellOf, ExprOf, SlicesOf, DerivsOf, constraint_projections, written_of}
 
 -- What a record makes, asks and says depends on the records before it alone.
 
@@ -119,9 +119,23 @@ constraints_from grid before (r ∷ rs) = constraints_of grid before r ++ constr
 abbrev pub constraints : List ℕ → List Item → List Constraint
 constraints grid items = constraints_from grid [] items
 
--- The contractors of all records by their numbers, from 0: each with the constraints that it stands for, which is one.
+-- what a net adds for a record: one contractor for all slices of a signal, one for those of a rate, and one for each other constraint
+abbrev pub contracts_of : List ℕ → List Item → Item → List Constraint
+contracts_of grid before (item.Signal name range) = SlicesOf (signals_in before) ∷ []
+contracts_of grid before (item.Deriv x rate) = DerivsOf x.0 rate.0 ∷ []
+contracts_of grid before r = constraints_of grid before r
+
+abbrev pub contracts_from : List ℕ → List Item → List Item → List Constraint
+contracts_from grid before [] = []
+contracts_from grid before (r ∷ rs) = contracts_of grid before r ++ contracts_from grid (before ++ r ∷ []) rs
+
+-- what a net adds for all records, those of an earlier record first
+abbrev pub contracts : List ℕ → List Item → List Constraint
+contracts grid items = contracts_from grid [] items
+
+-- The contractors of all records by their numbers, from 0: each with the constraints of the records that it stands for.
 abbrev pub contractors_of : List ℕ → List Item → List (List Constraint)
-contractors_of grid items = map (λ (c : Constraint). c ∷ []) (constraints grid items)
+contractors_of grid items = map (written_of grid) (contracts grid items)
 
 -- the projections of all records
 abbrev pub projections : List ℕ → List Item → List Projection

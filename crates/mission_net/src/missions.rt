@@ -5,7 +5,7 @@ ghost use Rattle.tube_spec.specs.Fixpoint.{IsFixpoint};
 ghost use Rattle.tube_spec.specs.Assignment.{Assignment};
 ghost use Rattle.tube_spec.specs.Owner.{hull_box};
 ghost use Rattle.mission_items.specs.Valid.{IsMission};
-ghost use Rattle.mission_net.specs.Records.{owners, owners_from, constraints_from, projections, start, SatisfiesAll};
+ghost use Rattle.mission_net.specs.Records.{owners, owners_from, contracts_from, projections, start, SatisfiesAll};
 ghost use Rattle.mission_net.specs.Tables.{IsTableOf};
 ghost use Rattle.mission_net.specs.Building.{IsNetOf, IsAdded};
 
@@ -32,7 +32,7 @@ pub(crate) fn build_on(
     requires holds { IsNetOf mission.now.cuts (take first mission.now.items) net.old }
     ensures table { OnOk result (IsTableOf table.new (take last mission.now.items)) }
     ensures holds { OnOk result (IsNetOf mission.now.cuts (take last mission.now.items) net.new) }
-    ensures added { OnOk result (IsAdded (owners_from (take first mission.now.items) (drop first (take last mission.now.items))) (constraints_from mission.now.cuts (take first mission.now.items) (drop first (take last mission.now.items))) net.old net.new) }
+    ensures added { OnOk result (IsAdded (owners_from (take first mission.now.items) (drop first (take last mission.now.items))) (contracts_from mission.now.cuts (take first mission.now.items) (drop first (take last mission.now.items))) net.old net.new) }
 {
     let items = mission.items.as_slice();
     for i in first..last {
@@ -75,7 +75,7 @@ pub fn build(
     // The net has exactly the cells and contractors of the records so far. Old cells are as they were and new ones at their declared
     // ranges; the new contractors wait, and of the old ones those that waited.
     ensures holds { OnOk result (IsNetOf mission.now.cuts (take last mission.now.items) net.new) }
-    ensures added { OnOk result (IsAdded (owners_from (take first mission.now.items) (drop first (take last mission.now.items))) (constraints_from mission.now.cuts (take first mission.now.items) (drop first (take last mission.now.items))) net.old net.new) }
+    ensures added { OnOk result (IsAdded (owners_from (take first mission.now.items) (drop first (take last mission.now.items))) (contracts_from mission.now.cuts (take first mission.now.items) (drop first (take last mission.now.items))) net.old net.new) }
 
     // Each assignment that satisfies the records so far and lay in the box before lies in it. Its hull is a fixpoint of them, below the
     // declared ranges.

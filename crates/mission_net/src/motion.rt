@@ -1,8 +1,7 @@
 //! The contractors of signals: slices, rates, evaluations and delays.
 
 ghost use Rattle.std.specs.Prelude.{◌≡◌, ◌+◌, ◌<◌, ◌≤◌, [], ◌∷◌, ◌++◌, OnOk, length};
-ghost use Rattle.ctc_deriv.specs.Bounds.{each_below};
-ghost use Rattle.any_ctc.specs.Constraints.{SliceOf, DerivOf, DelayToOf, DelayFromOf, DelayShiftOf};
+ghost use Rattle.any_ctc.specs.Constraints.{SlicesOf, DerivsOf, DelayToOf, DelayFromOf, DelayShiftOf};
 ghost use Rattle.mission_net.specs.Tables.{evaluation_by};
 ghost use Rattle.mission_net.specs.Building.{CanAdd, IsAdded, IsBeside};
 
@@ -10,41 +9,26 @@ use crate::AnyCtc;
 use crate::adding::add_contractor;
 use crate::made::Made;
 use ctc_delay::{DelayFrom, DelayShift, DelayTo};
-use ctc_deriv::{DerivCtc, SliceCtc};
 use ctc_eval::EvalCtc;
 use ctc_network::Net;
+use ctc_sweeps::{DerivSweep, SliceSweep};
 use tube_io::NoMemory;
 use tube_store::{SignalId, VarId};
 
-/// Adds the slice contractors of a signal.
-pub(crate) fn add_slices(
-    net: &mut Net<AnyCtc>,
-    signal: SignalId,
-    slices: u32,
-) -> Result<(), NoMemory>
-    requires { CanAdd (each_below (λ i. SliceOf signal.0 i ∷ []) slices) net.old }
-    ensures { OnOk result (IsAdded [] (each_below (λ i. SliceOf signal.0 i ∷ []) slices) net.old net.new) }
+/// Adds the contractor of all slices of a signal.
+pub(crate) fn add_slices(net: &mut Net<AnyCtc>, signal: SignalId) -> Result<(), NoMemory>
+    requires { CanAdd (SlicesOf signal.0 ∷ []) net.old }
+    ensures { OnOk result (IsAdded [] (SlicesOf signal.0 ∷ []) net.old net.new) }
 {
-    for i in 0..slices {
-        add_contractor(net, AnyCtc::Slice(SliceCtc::new(signal, i)))?;
-    }
-    Ok(())
+    add_contractor(net, AnyCtc::Slices(SliceSweep::new(signal)))
 }
 
-/// Adds the derivative contractors of a signal and its rate.
-pub(crate) fn add_rates(
-    net: &mut Net<AnyCtc>,
-    x: SignalId,
-    rate: SignalId,
-    slices: u32,
-) -> Result<(), NoMemory>
-    requires { CanAdd (each_below (λ i. DerivOf x.0 rate.0 i ∷ []) slices) net.old }
-    ensures { OnOk result (IsAdded [] (each_below (λ i. DerivOf x.0 rate.0 i ∷ []) slices) net.old net.new) }
+/// Adds the contractor of a signal and its rate over all slices.
+pub(crate) fn add_rates(net: &mut Net<AnyCtc>, x: SignalId, rate: SignalId) -> Result<(), NoMemory>
+    requires { CanAdd (DerivsOf x.0 rate.0 ∷ []) net.old }
+    ensures { OnOk result (IsAdded [] (DerivsOf x.0 rate.0 ∷ []) net.old net.new) }
 {
-    for i in 0..slices {
-        add_contractor(net, AnyCtc::Deriv(DerivCtc::new(x, rate, i)))?;
-    }
-    Ok(())
+    add_contractor(net, AnyCtc::Derivs(DerivSweep::new(x, rate)))
 }
 
 /// Adds the evaluation of a signal at a time, with the rate that the signal has so far.

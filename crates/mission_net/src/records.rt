@@ -5,7 +5,7 @@ ghost use Rattle.tube_spec.specs.Limits.{greatest_bound, most_cells, most_variab
 ghost use Rattle.tube_spec.specs.Span.{IsBounded};
 ghost use Rattle.tube_spec.specs.Owner.{SignalIn, VariableIn, with_owners};
 ghost use Rattle.mission_items.specs.Made.{signals_in, variables_in};
-ghost use Rattle.mission_net.specs.Records.{made, constraints_of};
+ghost use Rattle.mission_net.specs.Records.{made, contracts_of};
 ghost use Rattle.mission_net.specs.Tables.{IsTableOf};
 ghost use Rattle.mission_net.specs.Building.{CanAdd, CanBuild, HasBeacon, IsAdded, IsBeside, IsBindable, IsTimed};
 
@@ -38,14 +38,14 @@ fn add_contractors(
     requires bindable { IsBindable item.now }
     requires beacon { HasBeacon before.now item.now }
     requires evaluated { IsTimed before.now item.now }
-    requires room { CanAdd (constraints_of net.old.store.shape.grid before.now item.now) net.old }
-    ensures { OnOk result (IsAdded [] (constraints_of net.old.store.shape.grid before.now item.now) net.old net.new) }
+    requires room { CanAdd (contracts_of net.old.store.shape.grid before.now item.now) net.old }
+    ensures { OnOk result (IsAdded [] (contracts_of net.old.store.shape.grid before.now item.now) net.old net.new) }
 {
     let slices = net.store().slices();
     let alloc = table.alloc();
     match item {
-        Item::Signal { .. } => add_slices(net, SignalId(signals), slices),
-        Item::Deriv { x, rate } => add_rates(net, *x, *rate, slices),
+        Item::Signal { .. } => add_slices(net, SignalId(signals)),
+        Item::Deriv { x, rate } => add_rates(net, *x, *rate),
         Item::Bound {
             x,
             first,
@@ -108,7 +108,7 @@ pub(crate) fn add_item(
     requires table { IsTableOf table.old before.now }
     requires next { CanBuild before.now item.now net.old }
     ensures table { OnOk result (IsTableOf table.new (before.now ++ item.now ∷ [])) }
-    ensures added { OnOk result (IsAdded (made before.now item.now) (constraints_of net.old.store.shape.grid before.now item.now) net.old net.new) }
+    ensures added { OnOk result (IsAdded (made before.now item.now) (contracts_of net.old.store.shape.grid before.now item.now) net.old net.new) }
 {
     let signals = table.signals() as u32;
     let variables = table.variables() as u32;

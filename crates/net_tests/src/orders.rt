@@ -6,11 +6,13 @@ use crate::relations::{ORDERS, have_cells, program, range_from};
 use any_ctc::AnyCtc;
 use ctc_core::{Contractor, Revised};
 use ctc_network::{CtcId, Net, Order, Settled};
+use ctc_parts::Parted;
 use expr_hc4::{ExprCtc, Place};
 use slice_gates::Grid;
 use std::alloc::Global;
 use std::cell::Cell;
 use std::marker::Brand;
+use std::ops::Range;
 use std::rc::Rc;
 use std::sync::ledger::{Blank, Ledger};
 use std::test::Fail;
@@ -26,6 +28,16 @@ pub(crate) struct Listed {
     times: Cell<u32>,
     // The names of all that were fired, as the digits of a number; it is cut off at the left.
     list: Rc<Cell<u64>>,
+}
+
+impl Listed {
+    // Counts a firing, and writes the name behind the list.
+    fn note(&self) {
+        self.times.set(self.times.get().saturating_add(1));
+        let names = self.list.get();
+        self.list
+            .set(names.wrapping_mul(10).wrapping_add(self.name));
+    }
 }
 
 impl Contractor for Listed {
@@ -72,15 +84,63 @@ impl Contractor for Listed {
     }
 
     fn revise<L: Ledger>(&self, store: &mut Store, steps: &mut Steps<L>) -> Revised {
-        self.times.set(self.times.get().saturating_add(1));
-        let names = self.list.get();
-        self.list
-            .set(names.wrapping_mul(10).wrapping_add(self.name));
+        self.note();
         self.inner.revise(store, steps)
     }
 
     fn still<L: Ledger>(&self, store: &Store, steps: &mut Steps<L>) -> bool {
         self.inner.still(store, steps)
+    }
+}
+
+impl Parted for Listed {
+    ghost use Rattle.any_ctc.specs.Contractors.{constraint_of};
+    ghost use Rattle.any_ctc.specs.Parts.{constraint_parts, constraint_part, constraint_part_scope};
+    ghost use Rattle.any_ctc.specs.PartLaws.{constraint-whole, constraint-part_reads, constraint-part_in_scope, constraint-same_parts, constraint-same_part};
+
+    ghost parts = { λ c s. constraint_parts s (constraint_of c.inner) };
+
+    ghost part = { λ c s. constraint_part s (constraint_of c.inner) };
+
+    ghost part_scope = { λ c s. constraint_part_scope s (constraint_of c.inner) };
+
+    ghost whole = { λ c s. constraint-whole (constraint_of c.inner) s };
+
+    ghost part_reads = { λ c s i below. constraint-part_reads (constraint_of c.inner) s i below };
+
+    ghost part_in_scope = { λ c s i k below among. constraint-part_in_scope (constraint_of c.inner) s i k below among };
+
+    ghost same_parts = { λ c s t b grows fits. constraint-same_parts (constraint_of c.inner) s t grows };
+
+    ghost same_part = { λ c s t b i grows fits below. constraint-same_part (constraint_of c.inner) s t i grows fits below };
+
+    fn parts(&self, store: &Store) -> u32 {
+        self.inner.parts(store)
+    }
+
+    fn reach(&self, store: &Store, cell: CellId) -> Range<u32> {
+        self.inner.reach(store, cell)
+    }
+
+    fn revise_marked<L: Ledger>(
+        &self,
+        store: &mut Store,
+        marks: &mut [bool],
+        within: Range<u32>,
+        steps: &mut Steps<L>,
+    ) -> Revised {
+        self.note();
+        self.inner.revise_marked(store, marks, within, steps)
+    }
+
+    fn still_marked<L: Ledger>(
+        &self,
+        store: &Store,
+        marks: &[bool],
+        within: Range<u32>,
+        steps: &mut Steps<L>,
+    ) -> bool {
+        self.inner.still_marked(store, marks, within, steps)
     }
 }
 

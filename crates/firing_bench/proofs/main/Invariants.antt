@@ -1,4 +1,4 @@
 use Rattle.firing_bench.proofs.main.Given as goal
 
-abbrev pub ghosts-fired : goal.ghosts-fired
-ghosts-fired a = record { name = a.blank.name; parts = a.blank.parts }
+abbrev pub ghosts-asked_again : goal.ghosts-asked_again
+ghosts-asked_again a = record { name = a.blank.name; parts = a.blank.parts }

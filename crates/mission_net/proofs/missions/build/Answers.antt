@@ -6,7 +6,7 @@ use Rattle.tube_spec.specs.Owner.{hull_box}
 use Rattle.mission_items.specs.declared.item.Item.{Item}
 use Rattle.mission_items.specs.declared.mission.Mission.{Mission}
 use Rattle.mission_items.specs.Valid.{IsMission}
-use Rattle.mission_net.specs.Records.{constraints_from, owners, projections, start, SatisfiesAll}
+use Rattle.mission_net.specs.Records.{contracts_from, owners, projections, start, SatisfiesAll}
 use Rattle.mission_net.proofs.Building.{built-encloses, first-part, first-sound}
 use Rattle.mission_net.proofs.Enclosing.{hull-fixpoint, hull-below}
 use Rattle.mission_net.proofs.Sections.{built-box}
@@ -36,5 +36,5 @@ returns-clause-encloses c =
     on_ok c.build_on.result _ _ (λ added a says low.
     subst (λ (l : List Item). IsBelowBox (Some (hull_box m.cuts (owners l) a)) c.build_on.new.net.store.box) parts
     (built-encloses m.cuts from more a c.args.net.now.store.box c.build_on.new.net.store.box c.requires.mission.clock.grid
-    (built-box m.cuts m.items c.args.first more (constraints_from m.cuts from more) c.args.net.now c.build_on.new.net c.requires.holds added)
+    (built-box m.cuts m.items c.args.first more (contracts_from m.cuts from more) c.args.net.now c.build_on.new.net c.requires.holds added)
     (subst (SatisfiesAll m.cuts a) (sym parts) says) low)) c.build_on.ensures.added

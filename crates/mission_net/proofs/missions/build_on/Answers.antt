@@ -1,6 +1,6 @@
 use Rattle.std.proofs.Common.{◌<◌, List, [], ◌∷◌, ◌++◌, arith, sym, subst, length, take}
 use Rattle.mission_items.specs.declared.item.Item.{Item}
-use Rattle.mission_net.specs.Records.{made, constraints_of}
+use Rattle.mission_net.specs.Records.{made, contracts_of}
 use Rattle.mission_net.specs.Tables.{IsTableOf}
 use Rattle.mission_net.specs.Building.{CanBuild, IsAdded}
 use Rattle.mission_net.proofs.Building.{built-more, next-can, next-longer, next-right}
@@ -34,4 +34,4 @@ loop-i-preserved c =
     let at = c.index-items-i.is in
     built-more m.cuts m.items c.args.first i x c.args.net.now c.loop-i.net c.add_item.new.net c.loop-i.table c.add_item.new.table c.loop-i.auto.i inside (next-longer m is i x items same at inside) c.loop-i.invariant
     (subst (λ (l : List Item). IsTableOf c.add_item.new.table (take i l ++ x ∷ [])) same c.in_ok-add_item.ensures.table)
-    (subst (λ (l : List Item). IsAdded (made (take i l) x) (constraints_of c.loop-i.net.store.shape.grid (take i l) x) c.loop-i.net c.add_item.new.net) same c.in_ok-add_item.ensures.added)
+    (subst (λ (l : List Item). IsAdded (made (take i l) x) (contracts_of c.loop-i.net.store.shape.grid (take i l) x) c.loop-i.net c.add_item.new.net) same c.in_ok-add_item.ensures.added)

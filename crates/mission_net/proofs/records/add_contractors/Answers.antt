@@ -10,7 +10,7 @@ use Rattle.mission_items.specs.declared.item.Item.TheVariants as item
 use Rattle.mission_items.specs.Made.{ticks_from, variable_range, variables_in}
 use Rattle.mission_items.specs.Valid.{IsMark}
 use Rattle.any_ctc.specs.Constraints.{Constraint, ConstellOf, DistOf}
-use Rattle.mission_net.specs.Records.{constraints_of, evaluation, mark_constraints, point_at, target_of}
+use Rattle.mission_net.specs.Records.{contracts_of, evaluation, mark_constraints, point_at, target_of}
 use Rattle.mission_net.specs.Tables.{evaluation_by, mark_by, target_by, IsTableOf, Table}
 use Rattle.mission_net.specs.Building.{CanAdd, HasBeacon, IsAdded, IsBeside, IsTimed}
 use Rattle.any_ctc.specs.declared.AnyCtc.{AnyCtc}
@@ -25,56 +25,56 @@ ring v near far beacon t = DistOf (point_at (v + 1)) (target_by t (v + 3) beacon
 
 -- the record of an arm
 module _ (grid : List ℕ) (before : List Item) (r s : Item) (t : Table) (net : NetState AnyCtc) (same : r ≡ s) where
-  here-can : CanAdd (constraints_of grid before r) net → CanAdd (constraints_of grid before s) net
-  here-can = subst (λ (q : Item). CanAdd (constraints_of grid before q) net) same
+  here-can : CanAdd (contracts_of grid before r) net → CanAdd (contracts_of grid before s) net
+  here-can = subst (λ (q : Item). CanAdd (contracts_of grid before q) net) same
 
   here-table : IsTableOf t (before ++ r ∷ []) → IsTableOf t (before ++ s ∷ [])
   here-table = subst (λ (q : Item). IsTableOf t (before ++ q ∷ [])) same
 
   -- what is added, in the words of the record
-  there : (cs : List Constraint) (a b : NetState AnyCtc) → constraints_of grid before s ≡ cs → IsAdded [] cs a b → IsAdded [] (constraints_of grid before r) a b
-  there cs a b e h = subst (λ (l : List Constraint). IsAdded [] l a b) (sym (ap (constraints_of grid before) same ∙ e)) h
+  there : (cs : List Constraint) (a b : NetState AnyCtc) → contracts_of grid before s ≡ cs → IsAdded [] cs a b → IsAdded [] (contracts_of grid before r) a b
+  there cs a b e h = subst (λ (l : List Constraint). IsAdded [] l a b) (sym (ap (contracts_of grid before) same ∙ e)) h
 
   -- an evaluation of an `at` and of an `eval`, a constellation and a ping in the words of the table, whose record makes variables from v on
-  module _ (v : ℕ) (first : v ≡ variables_in before) (beside : IsBeside t net) (is : IsTableOf t (before ++ r ∷ [])) (can : CanAdd (constraints_of grid before r) net) where
-    at-is : (x : SignalId) (tick : ℕ) (range : Span) → s ≡ item.At x tick range → constraints_of grid before r ≡ evaluation_by t x.0 v (v + 1) ∷ []
+  module _ (v : ℕ) (first : v ≡ variables_in before) (beside : IsBeside t net) (is : IsTableOf t (before ++ r ∷ [])) (can : CanAdd (contracts_of grid before r) net) where
+    at-is : (x : SignalId) (tick : ℕ) (range : Span) → s ≡ item.At x tick range → contracts_of grid before r ≡ evaluation_by t x.0 v (v + 1) ∷ []
     at-is x tick range e =
         let q = item.At x tick range in
-        let all : CanAdd (constraints_of grid before q) net = subst (λ (q : Item). CanAdd (constraints_of grid before q) net) (same ∙ e) can in
+        let all : CanAdd (contracts_of grid before q) net = subst (λ (q : Item). CanAdd (contracts_of grid before q) net) (same ∙ e) can in
         let table : IsTableOf t (before ++ q ∷ []) = subst (λ (q : Item). IsTableOf t (before ++ q ∷ [])) (same ∙ e) is in
         let w = variables_in before in
-        ap (constraints_of grid before) (same ∙ e) ∙ at-by grid before t x tick range table (evaluated-below before x.0 w (w + 1) (point (pos tick)) [] t net beside all)
+        ap (contracts_of grid before) (same ∙ e) ∙ at-by grid before t x tick range table (evaluated-below before x.0 w (w + 1) (point (pos tick)) [] t net beside all)
         ∙ ap (λ (v : ℕ). evaluation_by t x.0 v (v + 1) ∷ []) (sym first)
 
-    eval-is : (x : SignalId) (u z : VarId) → s ≡ item.Eval x u z → u.0 < variables_in before → constraints_of grid before r ≡ evaluation_by t x.0 u.0 z.0 ∷ []
+    eval-is : (x : SignalId) (u z : VarId) → s ≡ item.Eval x u z → u.0 < variables_in before → contracts_of grid before r ≡ evaluation_by t x.0 u.0 z.0 ∷ []
     eval-is x u z e time =
         let q = item.Eval x u z in
-        let all : CanAdd (constraints_of grid before q) net = subst (λ (q : Item). CanAdd (constraints_of grid before q) net) (same ∙ e) can in
+        let all : CanAdd (contracts_of grid before q) net = subst (λ (q : Item). CanAdd (contracts_of grid before q) net) (same ∙ e) can in
         let table : IsTableOf t (before ++ q ∷ []) = subst (λ (q : Item). IsTableOf t (before ++ q ∷ [])) (same ∙ e) is in
-        ap (constraints_of grid before) (same ∙ e) ∙ eval-by grid before t x u z table (evaluated-below before x.0 u.0 z.0 (variable_range before u.0) [] t net beside all) time
+        ap (contracts_of grid before) (same ∙ e) ∙ eval-by grid before t x u z table (evaluated-below before x.0 u.0 z.0 (variable_range before u.0) [] t net beside all) time
 
-    constell-is : (p : List VarId) → s ≡ item.Constell p → constraints_of grid before r ≡ ConstellOf (numbers p) t.marks ∷ []
+    constell-is : (p : List VarId) → s ≡ item.Constell p → contracts_of grid before r ≡ ConstellOf (numbers p) t.marks ∷ []
     constell-is p e =
         let table : IsTableOf t (before ++ item.Constell p ∷ []) = subst (λ (q : Item). IsTableOf t (before ++ q ∷ [])) (same ∙ e) is in
-        ap (constraints_of grid before) (same ∙ e) ∙ constell-by grid before t p table
+        ap (contracts_of grid before) (same ∙ e) ∙ constell-by grid before t p table
 
     ping-is : (x y : SignalId) (from to : ℕ) (beacon : Option ℕ) (near far : ℤ) → s ≡ item.Ping x y from to beacon near far
-        → constraints_of grid before r ≡ (evaluation_by t x.0 v (v + 1) ∷ evaluation_by t y.0 v (v + 2) ∷ []) ++ ring v near far beacon t
+        → contracts_of grid before r ≡ (evaluation_by t x.0 v (v + 1) ∷ evaluation_by t y.0 v (v + 2) ∷ []) ++ ring v near far beacon t
     ping-is x y from to beacon near far e =
         let q = item.Ping x y from to beacon near far in
-        let all : CanAdd (constraints_of grid before q) net = subst (λ (q : Item). CanAdd (constraints_of grid before q) net) (same ∙ e) can in
+        let all : CanAdd (contracts_of grid before q) net = subst (λ (q : Item). CanAdd (contracts_of grid before q) net) (same ∙ e) can in
         let table : IsTableOf t (before ++ q ∷ []) = subst (λ (q : Item). IsTableOf t (before ++ q ∷ [])) (same ∙ e) is in
         let w = variables_in before in
         let rest : List Constraint = DistOf (point_at (w + 1)) (target_of before beacon) near far ∷ mark_constraints before beacon in
         let one = evaluated-below before x.0 w (w + 1) (ticks_from from to) (evaluation before y.0 w (w + 2) (ticks_from from to) ∷ rest) t net beside all in
         let other = other-below before (evaluation before x.0 w (w + 1) (ticks_from from to)) y.0 w (w + 2) (ticks_from from to) rest t net beside all in
-        ap (constraints_of grid before) (same ∙ e) ∙ ping-by grid before t x y from to beacon near far table one other
+        ap (contracts_of grid before) (same ∙ e) ∙ ping-by grid before t x y from to beacon near far table one other
         ∙ ap (λ (v : ℕ). (evaluation_by t x.0 v (v + 1) ∷ evaluation_by t y.0 v (v + 2) ∷ []) ++ ring v near far beacon t) (sym first)
 
     -- the radii of a ping are small
     radius-near : (x y : SignalId) (from to : ℕ) (beacon : Option ℕ) (near far : ℤ) → s ≡ item.Ping x y from to beacon near far → to_z w64 (of_z w64 near) ≡ near
     radius-near x y from to beacon near far e =
-        let all : CanAdd (constraints_of grid before (item.Ping x y from to beacon near far)) net = subst (λ (q : Item). CanAdd (constraints_of grid before q) net) (same ∙ e) can in
+        let all : CanAdd (contracts_of grid before (item.Ping x y from to beacon near far)) net = subst (λ (q : Item). CanAdd (contracts_of grid before q) net) (same ∙ e) can in
         let fits = all.of 2 (DistOf (point_at (variables_in before + 1)) (target_of before beacon) near far) (omega arith) in
         let zero = fits.from_zero in
         let order = fits.in_order in
@@ -82,7 +82,7 @@ module _ (grid : List ℕ) (before : List Item) (r s : Item) (t : Table) (net : 
 
     radius-far : (x y : SignalId) (from to : ℕ) (beacon : Option ℕ) (near far : ℤ) → s ≡ item.Ping x y from to beacon near far → to_z w64 (of_z w64 far) ≡ far
     radius-far x y from to beacon near far e =
-        let all : CanAdd (constraints_of grid before (item.Ping x y from to beacon near far)) net = subst (λ (q : Item). CanAdd (constraints_of grid before q) net) (same ∙ e) can in
+        let all : CanAdd (contracts_of grid before (item.Ping x y from to beacon near far)) net = subst (λ (q : Item). CanAdd (contracts_of grid before q) net) (same ∙ e) can in
         let fits = all.of 2 (DistOf (point_at (variables_in before + 1)) (target_of before beacon) near far) (omega arith) in
         let zero = fits.from_zero in
         let order = fits.in_order in

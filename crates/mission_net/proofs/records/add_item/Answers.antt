@@ -2,7 +2,7 @@ use Rattle.std.proofs.Common.{ℕ, ◌≤◌, List, [], All, arith, ap, subst, s
 use Rattle.mission_items.proofs.Making.{length-signal_ranges, length-variable_ranges}
 use Rattle.tube_spec.specs.Span.{IsBounded}
 use Rattle.tube_spec.specs.Owner.{Owner, with_owners}
-use Rattle.mission_net.specs.Records.{constraints_of, made}
+use Rattle.mission_net.specs.Records.{contracts_of, made}
 use Rattle.mission_net.specs.Building.{IsAdded}
 use Rattle.mission_net.proofs.Additions.{added-grid, added-then}
 use Rattle.mission_net.proofs.Steps.{cells-beside, cells-can, more-variables, new-made, new-signals, new-variables, so-many-signals, so-many-variables}
@@ -80,6 +80,6 @@ returns-clause-added c =
     let cells = subst (λ (os : List Owner). IsAdded os [] net c.add_cells.new.net) made_here c.in_ok-add_cells.ensures in
     let same = added-grid (made b r) [] net c.add_cells.new.net cells in
     on_ok c.add_contractors.result _ _ (λ h.
-    subst (λ (os : List Owner). IsAdded os (constraints_of net.store.shape.grid b r) net c.add_contractors.new.net) (append-nil (made b r))
-    (added-then (made b r) [] [] (constraints_of net.store.shape.grid b r) net c.add_cells.new.net c.add_contractors.new.net cells
-    (subst (λ (g : List ℕ). IsAdded [] (constraints_of g b r) c.add_cells.new.net c.add_contractors.new.net) same h))) c.add_contractors.ensures
+    subst (λ (os : List Owner). IsAdded os (contracts_of net.store.shape.grid b r) net c.add_contractors.new.net) (append-nil (made b r))
+    (added-then (made b r) [] [] (contracts_of net.store.shape.grid b r) net c.add_cells.new.net c.add_contractors.new.net cells
+    (subst (λ (g : List ℕ). IsAdded [] (contracts_of g b r) c.add_cells.new.net c.add_contractors.new.net) same h))) c.add_contractors.ensures

@@ -1,13 +1,16 @@
-use Rattle.std.proofs.Common.{◌≡◌, ◌<◌, ◌+◌, ◌≤◌, Option, Some, true, false, List, Bool, length, IsSome, sym, ap, subst, ◌∙◌, slice_get, set, length-set, flat_map, arith}
+use Rattle.std.proofs.Common.{◌≡◌, ℕ, Contains, ◌<◌, ◌+◌, ◌≤◌, Option, Some, true, false, List, Bool, length, IsSome, sym, ap, subst, ◌∙◌, slice_get, set, length-set, flat_map, arith}
 use Rattle.std.proofs.lemmas.Option.{slice_get_within}
-use Rattle.ctc_core.specs.Answers.{MatchRevised}
-use Rattle.ctc_core.specs.declared.Revised.{Revised}
 use Rattle.cell_readers.specs.Costs.{potential}
-use Rattle.ctc_network.specs.Nets.{NetState, AreThere, of_place, fits_place, readers_of}
+use Rattle.ctc_core.specs.declared.Revised.TheVariants.{Narrowed}
+use Rattle.cell_readers.specs.Entries.{readers_at}
+use Rattle.part_marks.specs.Marks.{Marked}
+use Rattle.part_marks.specs.Nets.{IsReached}
+use Rattle.ctc_network.specs.Nets.{NetState, HasMarks, AreThere, of_place, fits_place, readers_of}
 use Rattle.ctc_network.specs.Settling.{IsNarrowedBy}
 use Rattle.ctc_network.proofs.Firing.{noted-net, noted-narrowed, noted-falls, noted-same, noted-says, kept-table, quiet-taken}
 use Rattle.ctc_network.proofs.Holes.{below, reads-only, there-rested, noted-there, place-there}
 use Rattle.ctc_network.proofs.Waking.{inside-there, set-again}
+use Rattle.ctc_network.proofs.Marks.{beside-after, clean-place, fits-after, marks-back, marks-noted, marks-read}
 use Rattle.ctc_network.proofs.net.Net.fire_next.Goals as goal
 
 pub invariant_of-self-2 : goal.invariant_of-self-2
@@ -18,25 +21,38 @@ invariant_of-self-2 g c =
     let n = c.self.inside in
     let k = c.in_ok-number.number in
     let t = c.in_ok-number.ensures in
-    let l : k < length n.contractors.items = omega (arith, slice_get_within n.waiting k true t.0, c.self.invariant.kept.state.net.beside) in
+    let l : k < length n.contractors.items = omega (arith, slice_get_within n.waiting k true t.0, c.self.invariant.net.kept.state.net.beside) in
     let there : slice_get n.contractors.items k ≡ Some c.index.result.now = inside-there n.contractors.items k c.index.result.now l c.index.ensures in
     let r = c.revise-answer.ensures.revised in
+    let P = g.C.Parted in
+    let p = g.met.C.Parted in
+    let inside : k < length n.marks.items = omega (arith, l, c.self.invariant.marks.len) in
+    let written : List Marked = set n.marks.items k c.revise-answer.new.marks in
+    let reached = subst (λ (ks : List (Option T)). c.revise-answer.result ≡ Narrowed → (cell j : ℕ) → Contains c.revise-answer.new.store.touched cell → Contains (readers_at n.readers.readers cell) j → IsReached P.parts P.part_scope c.revise-answer.new.store.shape ks c.note.new.marks cell j)
+    c.deref.ensures.value c.note.ensures.reached in
     record {
-      kept = record {
-        state = noted-net (Option T) (of_place K.projections) (of_place K.scope) (fits_place K.fits) (below T K.projections K.scope K.fits m.fits_below) (reads-only T K.projections K.scope K.fits m.reads_only) n.store c.revise-answer.new.store n.contractors.items n.waiting c.take.new.waiting k c.index.result.now c.self.invariant.kept.state there
-            (ap length t.1 ∙ length-set n.waiting k false) (quiet-taken n.waiting c.take.new.waiting k t.1) (ap (λ (ws : List Bool). set ws k false) t.1 ∙ set-again n.waiting k false false)
-            n.readers.readers c.self.invariant.kept.table_of.readers c.revise-answer.result c.note.new.store c.note.new.waiting r c.note.ensures;
-        table_of = kept-table (of_place K.scope) n.contractors.items n.store.shape c.note.new.store.shape n.readers n.entries
-            ((noted-same (Option T) (of_place K.projections) (of_place K.scope) (fits_place K.fits) (below T K.projections K.scope K.fits m.fits_below) (reads-only T K.projections K.scope K.fits m.reads_only) c.revise-answer.result k n.readers.readers c.revise-answer.new.store c.note.new.store c.take.new.waiting c.note.new.waiting c.note.ensures).0 ∙ r.revised.shape) c.self.invariant.kept.table_of;
+      net = record {
+        kept = record {
+          state = noted-net (Option T) (of_place K.projections) (of_place K.scope) (fits_place K.fits) (below T K.projections K.scope K.fits m.fits_below) (reads-only T K.projections K.scope K.fits m.reads_only) n.store c.revise-answer.new.store n.contractors.items n.waiting c.take.new.waiting k c.index.result.now c.self.invariant.net.kept.state there
+              (ap length t.1 ∙ length-set n.waiting k false) (quiet-taken n.waiting c.take.new.waiting k t.1) (ap (λ (ws : List Bool). set ws k false) t.1 ∙ set-again n.waiting k false false)
+              n.readers.readers c.self.invariant.net.kept.table_of.readers c.revise-answer.result c.note.new.store c.note.new.waiting r c.note.ensures.notes;
+          table_of = kept-table (of_place K.scope) n.contractors.items n.store.shape c.note.new.store.shape n.readers n.entries
+              ((noted-same c.revise-answer.result k n.readers.readers c.revise-answer.new.store c.note.new.store c.take.new.waiting c.note.new.waiting c.note.ensures.notes).0 ∙ r.revised.shape) c.self.invariant.net.kept.table_of;
+        };
+        there = noted-there K.scope n.store.shape n.contractors.items n.readers.readers c.self.invariant.net.kept.table_of.readers c.revise-answer.result k c.revise-answer.new.store c.note.new.store c.take.new.waiting c.note.new.waiting
+            (c.self.invariant.net.there k t.0)
+            (subst (λ (ws : List Bool). AreThere n.contractors.items ws) (sym t.1) (there-rested n.contractors.items n.waiting k c.self.invariant.net.there)) c.note.ensures.notes;
+        count = c.self.invariant.net.count;
       };
-      there = noted-there K.scope n.store.shape n.contractors.items n.readers.readers c.self.invariant.kept.table_of.readers c.revise-answer.result k c.revise-answer.new.store c.note.new.store c.take.new.waiting c.note.new.waiting
-          (c.self.invariant.there k t.0)
-          (subst (λ (ws : List Bool). AreThere n.contractors.items ws) (sym t.1) (there-rested n.contractors.items n.waiting k c.self.invariant.there)) c.note.ensures;
-      count = c.self.invariant.count;
+      marks = subst (λ (ms : List Marked). HasMarks P.parts P.part c.note.new.store n.contractors.items ms) (sym (marks-back written c.deref_mut.result.now c.note.new.marks n.marks.len c.deref_mut.ensures.value c.deref_mut.ensures.len c.note.ensures.kept.len))
+          (marks-noted T K.projections K.scope K.fits P.parts P.part P.part_scope m.fits_below p.whole p.part_reads p.part_in_scope n.store c.revise-answer.new.store c.note.new.store n.contractors.items n.readers.readers k c.index.result.now n.marks.items c.deref_mut.result.now
+          c.note.new.marks c.revise-answer.new.marks c.revise-answer.result c.take.new.waiting c.note.new.waiting (place-there n.contractors.items k c.index.result.now there (c.self.invariant.net.there k t.0)) there c.self.invariant.net.kept.state.net.fit c.self.invariant.net.kept.state.drained c.self.invariant.marks inside
+          (c.revise-answer.ensures.len ∙ ap (λ (v : Marked). length v.flags) (marks-read n.marks.items k c.index_mut.result.now inside c.index_mut.ensures.value)) c.deref_mut.ensures.value c.note.ensures.kept c.self.invariant.net.kept.table_of.readers r reached
+          c.note.ensures.notes);
     }
 
 pub returns-clause-net : goal.returns-clause-net
-returns-clause-net g c = (invariant_of-self-2 g c).kept.state.net
+returns-clause-net g c = (invariant_of-self-2 g c).net.kept.state.net
 
 pub returns-clause-narrowed : goal.returns-clause-narrowed
 returns-clause-narrowed g c =
@@ -46,11 +62,11 @@ returns-clause-narrowed g c =
     let n = c.self.inside in
     let k = c.in_ok-number.number in
     let t = c.in_ok-number.ensures in
-    let l : k < length n.contractors.items = omega (arith, slice_get_within n.waiting k true t.0, c.self.invariant.kept.state.net.beside) in
+    let l : k < length n.contractors.items = omega (arith, slice_get_within n.waiting k true t.0, c.self.invariant.net.kept.state.net.beside) in
     let there : slice_get n.contractors.items k ≡ Some c.index.result.now = inside-there n.contractors.items k c.index.result.now l c.index.ensures in
     subst (λ (v : NetState T). IsNarrowedBy (flat_map (λ d. of_place K.projections d v.store.shape) v.contractors) v.store c.note.new.store) c.self.view_is
     (noted-narrowed (Option T) (of_place K.projections) (of_place K.scope) (fits_place K.fits) (below T K.projections K.scope K.fits m.fits_below) (reads-only T K.projections K.scope K.fits m.reads_only) n.contractors.items c.index.result.now c.revise-answer.result k n.readers.readers n.store c.revise-answer.new.store c.note.new.store c.take.new.waiting c.note.new.waiting there
-    c.revise-answer.ensures.revised c.note.ensures)
+    c.revise-answer.ensures.revised c.note.ensures.notes)
 
 pub returns-clause-says : goal.returns-clause-says
 returns-clause-says g c =
@@ -59,7 +75,7 @@ returns-clause-says g c =
     let T = g.row.C.Denot in
     let n = c.self.inside in
     noted-says (Option T) (of_place K.projections) (of_place K.scope) (fits_place K.fits) (below T K.projections K.scope K.fits m.fits_below) (reads-only T K.projections K.scope K.fits m.reads_only) (of_place K.projections c.index.result.now n.store.shape) c.revise-answer.result c.in_ok-number.number n.readers.readers n.store c.revise-answer.new.store c.note.new.store c.take.new.waiting c.note.new.waiting
-    c.revise-answer.ensures.revised c.note.ensures
+    c.revise-answer.ensures.revised c.note.ensures.notes
 
 pub returns-clause-falls : goal.returns-clause-falls
 returns-clause-falls g c =
@@ -70,16 +86,57 @@ returns-clause-falls g c =
     let k = c.in_ok-number.number in
     let t = c.in_ok-number.ensures in
     let some : IsSome n.store.box = subst (λ (v : NetState T). IsSome v.store.box) (sym c.self.view_is) c.requires in
-    let l : k < length n.contractors.items = omega (arith, slice_get_within n.waiting k true t.0, c.self.invariant.kept.state.net.beside) in
+    let l : k < length n.contractors.items = omega (arith, slice_get_within n.waiting k true t.0, c.self.invariant.net.kept.state.net.beside) in
     let there : slice_get n.contractors.items k ≡ Some c.index.result.now = inside-there n.contractors.items k c.index.result.now l c.index.ensures in
     subst (λ (v : NetState T). potential (readers_of (of_place K.scope) v.store.shape v.contractors) c.note.new.waiting c.note.new.store.box + 1 ≤ potential (readers_of (of_place K.scope) v.store.shape v.contractors) v.waiting v.store.box) c.self.view_is
     (noted-falls (Option T) (of_place K.projections) (of_place K.scope) (fits_place K.fits) (below T K.projections K.scope K.fits m.fits_below) (reads-only T K.projections K.scope K.fits m.reads_only) n.store c.revise-answer.new.store c.note.new.store n.contractors.items n.waiting c.take.new.waiting c.note.new.waiting k c.index.result.now c.revise-answer.result n.readers.readers
-    c.self.invariant.kept.state c.self.invariant.kept.table_of.readers some there t.0 t.1 c.revise-answer.ensures.revised c.note.ensures)
+    c.self.invariant.net.kept.state c.self.invariant.net.kept.table_of.readers some there t.0 t.1 c.revise-answer.ensures.revised c.note.ensures.notes)
 
 pub revise-answer-requires-clause-there : goal.revise-answer-requires-clause-there
 revise-answer-requires-clause-there g c =
     let n = c.self.inside in
     let k = c.in_ok-number.number in
     let t = c.in_ok-number.ensures in
-    let l : k < length n.contractors.items = omega (arith, slice_get_within n.waiting k true t.0, c.self.invariant.kept.state.net.beside) in
-    place-there n.contractors.items k c.index.result.now (inside-there n.contractors.items k c.index.result.now l c.index.ensures) (c.self.invariant.there k t.0)
+    let l : k < length n.contractors.items = omega (arith, slice_get_within n.waiting k true t.0, c.self.invariant.net.kept.state.net.beside) in
+    place-there n.contractors.items k c.index.result.now (inside-there n.contractors.items k c.index.result.now l c.index.ensures) (c.self.invariant.net.there k t.0)
+
+pub revise-answer-requires-clause-clean : goal.revise-answer-requires-clause-clean
+revise-answer-requires-clause-clean g c =
+    let K = g.C.Contractor in
+    let T = g.row.C.Denot in
+    let n = c.self.inside in
+    let k = c.in_ok-number.number in
+    let t = c.in_ok-number.ensures in
+    let l : k < length n.contractors.items = omega (arith, slice_get_within n.waiting k true t.0, c.self.invariant.net.kept.state.net.beside) in
+    let inside : k < length n.marks.items = omega (arith, l, c.self.invariant.marks.len) in
+    clean-place g.C.Parted.parts g.C.Parted.part n.store n.contractors.items n.marks.items k c.index.result.now c.index_mut.result.now c.self.invariant.marks
+    (inside-there n.contractors.items k c.index.result.now l c.index.ensures) (marks-read n.marks.items k c.index_mut.result.now inside c.index_mut.ensures.value)
+
+pub note-requires-clause-number : goal.note-requires-clause-number
+note-requires-clause-number g c =
+    let K = g.C.Contractor in
+    let T = g.row.C.Denot in
+    let n = c.self.inside in
+    let k = c.in_ok-number.number in
+    let t = c.in_ok-number.ensures in
+    let l : k < length n.contractors.items = omega (arith, slice_get_within n.waiting k true t.0, c.self.invariant.net.kept.state.net.beside) in
+    omega (arith, l, c.self.invariant.net.kept.state.net.beside, ap length t.1, length-set n.waiting k false)
+
+pub note-requires-clause-fits : goal.note-requires-clause-fits
+note-requires-clause-fits g c =
+    let K = g.C.Contractor in
+    let n = c.self.inside in
+    let r = c.revise-answer.ensures.revised.revised in
+    fits-after K.fits g.met.C.Contractor.fits_below n.store c.revise-answer.new.store n.contractors.items c.deref.result.now c.deref.ensures.value r.shape r.below c.self.invariant.net.kept.state.net.fit
+
+pub note-requires-clause-beside : goal.note-requires-clause-beside
+note-requires-clause-beside g c =
+    let K = g.C.Contractor in
+    let T = g.row.C.Denot in
+    let n = c.self.inside in
+    let k = c.in_ok-number.number in
+    let t = c.in_ok-number.ensures in
+    let l : k < length n.contractors.items = omega (arith, slice_get_within n.waiting k true t.0, c.self.invariant.net.kept.state.net.beside) in
+    let inside : k < length n.marks.items = omega (arith, l, c.self.invariant.marks.len) in
+    beside-after g.C.Parted.parts g.C.Parted.part n.store c.revise-answer.new.store n.contractors.items c.deref.result.now n.marks.items c.deref_mut.result.now k c.revise-answer.new.marks c.deref.ensures.value c.revise-answer.ensures.revised.revised.shape
+    c.deref_mut.ensures.value inside (c.revise-answer.ensures.len ∙ ap (λ (v : Marked). length v.flags) (marks-read n.marks.items k c.index_mut.result.now inside c.index_mut.ensures.value)) c.self.invariant.marks

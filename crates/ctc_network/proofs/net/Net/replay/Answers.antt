@@ -15,7 +15,7 @@ loop-id-preserved g c =
     let n : CtcId = record { 0 = 0 } in
     let id = get_or c.args.ids.now c.loop-id.id-index n in
     let named : id.0 < length cs = there-within cs id.0 (c.requires c.loop-id.id-index n c.loop-id-test.true) in
-    let net : ArePlaces (of_place K.projections) (of_place K.scope) (fits_place K.fits) c.args.self.now = subst (λ (v : NetState T). ArePlaces (of_place K.projections) (of_place K.scope) (fits_place K.fits) v) c.self.view_is c.self.invariant.kept.state.net in
+    let net : ArePlaces (of_place K.projections) (of_place K.scope) (fits_place K.fits) c.args.self.now = subst (λ (v : NetState T). ArePlaces (of_place K.projections) (of_place K.scope) (fits_place K.fits) v) c.self.view_is c.self.invariant.net.kept.state.net in
     let there = get-there cs id.0 named in
     let same = c.loop-id.invariant.contractors in
     let at : slice_get c.loop-id.self.contractors id.0 ≡ Some there.0 = ap (λ (ks : List (Option T)). slice_get ks id.0) same ∙ there.1 in
