@@ -1,10 +1,10 @@
 -- Turns that are added up, nothing where one of them is nothing.
-use Rattle.std.proofs.Common.{◌≡◌, ℕ, zero, suc, ◌+◌, ◌-◌, ◌<◌, ◌≤◌, ◌⊎◌, inl, inr, Bool, true, false, cond, Option, Some, None, List, [], ◌∷◌, ◌++◌, ℤ, pos, ◌+ℤ◌, arith, refl, sym, ap, subst, ◌∙◌, add-one}
+use Rattle.std.proofs.Common.{◌≡◌, ℕ, zero, suc, ◌+◌, ◌<◌, ◌≤◌, Bool, true, false, Option, Some, None, List, [], ◌∷◌, ◌++◌, ℤ, pos, arith, refl, sym, ap, ◌∙◌, add-one}
 use Rattle.std.specs.List.{flat_map}
 use Rattle.std.proofs.lemmas.Int.{ints}
 use Rattle.loop_degree.specs.declared.labels.Label.{Label}
 use Rattle.loop_degree.specs.Cells.{Edge, side_unless}
-use Rattle.loop_degree.specs.Boundary.{turn_option, add_option}
+use Rattle.loop_degree.specs.Boundary.{add_option}
 use Rattle.loop_sets.specs.Cells.{column}
 use Rattle.loop_sets.specs.Turns.{turn_of, turns_along, sum_along, sum_cells, turn_unless}
 

@@ -1,5 +1,5 @@
 -- Runs of cells beside a run.
-use Rattle.std.proofs.Common.{◌≡◌, ℕ, ◌+◌, ◌-◌, ◌<◌, ◌≤◌, ◌⊎◌, inl, inr, Bool, true, false, Ordering, Less, Equal, Greater, Result, Ok, Err, Option, Some, None, IfSome, MatchOption, List, length, get_or, min, ℤ, pos, arith, refl, sym, ap, subst, ◌∙◌}
+use Rattle.std.proofs.Common.{◌≡◌, ℕ, ◌+◌, ◌-◌, ◌<◌, ◌≤◌, ◌⊎◌, inl, inr, Bool, true, false, Ordering, Less, Equal, Greater, Result, Ok, Err, Option, Some, None, IfSome, MatchOption, List, length, get_or, min, ℤ, arith, sym, ap, subst, ◌∙◌}
 use Rattle.std.specs.List.{HoldsAt}
 use Rattle.std.specs.Ordering.{ordering_index}
 use Rattle.loop_degree.proofs.Searching.{pair_cmp}

@@ -1,8 +1,8 @@
 -- Lists of runs, one run more.
-use Rattle.std.proofs.Common.{◌≡◌, ℕ, zero, suc, ◌+◌, ◌<◌, ◌≤◌, ◌⊎◌, inl, inr, List, [], ◌∷◌, ◌++◌, length, arith, subst, sym, ◌↔◌}
+use Rattle.std.proofs.Common.{◌≡◌, ℕ, suc, ◌+◌, ◌<◌, ◌≤◌, ◌⊎◌, inl, inr, List, [], ◌∷◌, ◌++◌, arith, ◌↔◌}
 use Rattle.tplane_paver.specs.declared.runs.Run.{Run}
-use Rattle.tplane_paver.specs.Runs.{InRun, InRuns, run_at, IsBefore, AreInOrder}
-use Rattle.tplane_paver.proofs.Lists.{InSome, some-in, in-some, some-left, some-right, some-cases}
+use Rattle.tplane_paver.specs.Runs.{InRun, InRuns, AreInOrder}
+use Rattle.tplane_paver.proofs.Lists.{some-in, in-some, some-left, some-right, some-cases}
 
 pub split : (x y : ℕ) → (x < y) ⊎ (y ≤ x)
 split x y = grind arith

@@ -1,5 +1,5 @@
 -- Runs that are merged one by one in the order of their beginnings.
-use Rattle.std.proofs.Common.{◌≡◌, ◌≢◌, ℕ, ◌+◌, ◌-◌, ◌<◌, ◌≤◌, Bool, true, false, IsTrue, ◌⊎◌, inl, inr, List, [], ◌∷◌, ◌++◌, length, length-append, get_or, set, max, arith, refl, sym, ap, subst, ◌∙◌, ◌↔◌, get_or-set_same, get_or-set_other, Contains}
+use Rattle.std.proofs.Common.{◌≡◌, ◌≢◌, ℕ, ◌+◌, ◌-◌, ◌<◌, ◌≤◌, Bool, false, IsTrue, ◌⊎◌, inl, inr, List, [], ◌∷◌, ◌++◌, length, length-append, get_or, set, max, arith, sym, ap, subst, ◌∙◌, ◌↔◌, get_or-set_same, get_or-set_other}
 use Rattle.std.specs.Ordering.{is_lt}
 use Rattle.std.specs.Cmp.{IsTotalOrder}
 use Rattle.std.specs.List.Sorted.{IsPermutation, IsSortedByKey}
@@ -7,13 +7,13 @@ use Rattle.std.proofs.Math.ListN.{length-set}
 use Rattle.std.proofs.lemmas.Cmp.{nat_cmp_total, then_total, on_total}
 use Rattle.std.proofs.lemmas.Bool.Decides.{nat_tests}
 use Rattle.std.proofs.lemmas.List.{get_or_default, get_or_append_left}
-use Rattle.std.proofs.lemmas.List.Sorted.{ranks_by, sorted_far, Contains-permutation, IsPermutation-sym, length_permutation}
+use Rattle.std.proofs.lemmas.List.Sorted.{ranks_by, sorted_far, Contains-permutation, IsPermutation-sym}
 use Rattle.std.proofs.Math.Seq.{get_or-append_seam}
 use Rattle.tplane_paver.specs.declared.runs.Run.{Run}
 use Rattle.tplane_paver.specs.Runs.{InRun, InRuns, run_at, IsBefore, AreInOrder}
 use Rattle.loop_degree.proofs.Searching.{pair_cmp}
 use Rattle.loop_sets.specs.CellRuns.{HavePairs, BeginsUpTo, AllBeginUpTo, BeginInOrder, JoinsLast}
-use Rattle.loop_sets.proofs.Lists.{split, below-or-same, run-pushed, push-run}
+use Rattle.loop_sets.proofs.Lists.{split, below-or-same}
 
 -- places of a list with one run more
 at-old : (xs : List Run) (r : Run) (i : ℕ) → i < length xs → run_at (xs ++ r ∷ []) i ≡ run_at xs i

@@ -1,11 +1,9 @@
 -- Cells over runs of pairs.
 use Rattle.std.proofs.lemmas.List.{take_all}
-use Rattle.std.proofs.Common.{ap, take, ◌≡◌, ℕ, ◌+◌, ◌-◌, ◌<◌, ◌≤◌, true, ◌⊎◌, inl, inr, List, [], ◌∷◌, ◌++◌, length, arith, refl, sym, subst, ◌∙◌, ◌↔◌}
+use Rattle.std.proofs.Common.{ap, take, ◌≡◌, ℕ, ◌+◌, ◌-◌, ◌<◌, ◌≤◌, ◌⊎◌, inl, inr, List, [], ◌∷◌, ◌++◌, length, arith, refl, sym, subst, ◌∙◌, ◌↔◌}
 use Rattle.tplane_paver.specs.declared.runs.Run.{Run}
 use Rattle.tplane_paver.specs.Runs.{InRun, InRuns, run_at, AreInOrder}
-use Rattle.loop_degree.specs.Pairs.{has}
 use Rattle.loop_degree.specs.Cells.{IsCornerOf}
-use Rattle.loop_degree.specs.Degree.{IsValid}
 use Rattle.loop_sets.specs.Cells.{IsCellOf, AreCellsOf, pairs_in}
 use Rattle.loop_sets.specs.Bounds.{EndBefore}
 use Rattle.loop_sets.specs.CellRuns.{IsOver, IsOverBelow, IsOverSome, HavePairs}

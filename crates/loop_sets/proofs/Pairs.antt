@@ -4,7 +4,7 @@ use Rattle.std.specs.List.{AllByRecursion}
 use Rattle.std.proofs.lemmas.Bool.{or_cases, or_left, or_right, eq-eqb}
 use Rattle.std.proofs.lemmas.List.{take_more, append-nil}
 use Rattle.tplane_paver.specs.declared.runs.Run.{Run}
-use Rattle.tplane_paver.specs.Runs.{InRun, InRuns, run_at, AreInOrder}
+use Rattle.tplane_paver.specs.Runs.{InRuns, run_at, AreInOrder}
 use Rattle.tplane_paver.proofs.Lists.{InSome, some-in, in-some}
 use Rattle.loop_degree.specs.Pairs.{IsBefore, IsRising, has, is_same}
 use Rattle.loop_degree.proofs.Sharing.{same_pair}

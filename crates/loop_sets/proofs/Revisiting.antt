@@ -1,11 +1,8 @@
 -- Components of paved runs, and what a finding says of trajectories.
-use Rattle.std.proofs.Common.{◌≡◌, ℕ, zero, suc, ◌+◌, ◌<◌, ◌≤◌, Bool, true, false, ◌&&◌, Option, Some, None, IsSome, IfSome, List, [], length, get_or, IsTrue, arith, refl, sym, ap, subst, ◌∙◌}
+use Rattle.std.proofs.Common.{◌≡◌, ℕ, zero, suc, ◌<◌, Bool, true, false, ◌&&◌, Option, Some, None, IsSome, IfSome, List, [], length, get_or, IsTrue, arith, refl, sym, subst, ◌∙◌}
 use Rattle.std.proofs.lemmas.List.{get_or_default}
 use Rattle.tube_spec.specs.Span.{Span}
-use Rattle.tube_spec.specs.Grid.{IsGrid, last_tick}
 use Rattle.tube_spec.specs.Shape.{Shape}
-use Rattle.tube_spec.specs.Box.{IsBelow}
-use Rattle.tube_spec.specs.Assignment.{Assignment, value_at, IsHull}
 use Rattle.hull_tree.specs.Plane.{Plane, plane_of, tube_of, is_valid, is_possible}
 use Rattle.tube_names.specs.declared.queries.Query.{Query}
 use Rattle.hull_tree.proofs.Nearness.{possible-revisit, sure-revisit}
@@ -14,10 +11,9 @@ use Rattle.tplane_paver.specs.Runs.{InRun, InRuns, run_at, AreMaximalRuns}
 use Rattle.tplane_paver.specs.Components.{IsBeside, Reaches, HasRun, set_at, AreComponents}
 use Rattle.loop_degree.specs.Cells.{IsCornerOf}
 use Rattle.loop_degree.proofs.Law.{degree-law}
-use Rattle.loop_sets.specs.declared.finding.Finding.{Finding}
 use Rattle.loop_sets.specs.declared.finding.Finding.TheVariants.{Sure, Degree, Unproved}
-use Rattle.loop_sets.specs.Sets.{IsComponent, IsLeastSure, IsNoneSure, HasRevisitIn, plane_over}
-use Rattle.loop_sets.specs.Finding.{IsFinding, FindingLaw, ComponentLaw, label_under}
+use Rattle.loop_sets.specs.Sets.{IsComponent, plane_over}
+use Rattle.loop_sets.specs.Finding.{FindingLaw, ComponentLaw, label_under}
 
 reaches-map : (P Q : ℕ → ℕ → Type 0) → ((a b : ℕ) → P a b → Q a b) → (n a b c d : ℕ) → Reaches P n a b c d → Reaches Q n a b c d
 reaches-map P Q h zero a b c d p = p

@@ -1,14 +1,13 @@
 -- Steps tick by tick, and their greatest sums over runs of cells.
-use Rattle.std.proofs.Common.{Bool, true, false, ◌≡◌, ℕ, zero, suc, ◌+◌, ◌-◌, ◌<◌, ◌≤◌, Option, Some, None, List, [], ◌∷◌, ◌++◌, map, take, length, length-append, get_or, ℤ, pos, ◌+ℤ◌, ◌≤ℤ◌, arith, refl, sym, ap, subst, ◌∙◌, IfSome}
+use Rattle.std.proofs.Common.{Bool, true, false, ◌≡◌, ℕ, zero, suc, ◌+◌, ◌-◌, ◌<◌, ◌≤◌, Option, Some, None, List, [], ◌∷◌, ◌++◌, map, take, length, length-append, ℤ, pos, ◌+ℤ◌, ◌≤ℤ◌, arith, refl, sym, ap, subst, ◌∙◌, IfSome}
 use Rattle.std.specs.Bool.{OnTrue}
 use Rattle.std.specs.Int.{int_max}
 use Rattle.std.specs.List.{fold, range_with_len}
 use Rattle.std.proofs.lemmas.Int.{ints, clamps}
-use Rattle.std.proofs.lemmas.List.FromFn.{map-range_with_len_more, get_or-map-range_with_len}
+use Rattle.std.proofs.lemmas.List.FromFn.{map-range_with_len_more}
 use Rattle.tube_spec.specs.Span.{Span}
 use Rattle.tplane_paver.specs.declared.runs.Run.{Run}
 use Rattle.tplane_paver.specs.Runs.{run_at}
-use Rattle.loop_degree.specs.Pairs.{has}
 use Rattle.loop_degree.specs.Steps.{greatest_sum}
 use Rattle.loop_sets.specs.Cells.{column, ticks_in, pairs_in}
 use Rattle.loop_sets.specs.Bounds.{step_at, AreSteps, AreTopped, greater_sum}

@@ -1,5 +1,5 @@
 -- Tables of the greatest numbers.
-use Rattle.std.proofs.Common.{◌≡◌, ℕ, zero, suc, ◌+◌, ◌-◌, ◌*◌, ◌<◌, ◌≤◌, ◌⊎◌, inl, inr, List, [], ◌∷◌, ◌++◌, Vec, length, get_or, map, take, All, ℤ, pos, neg_ℤ, ◌≤ℤ◌, arith, refl, sym, ap, subst, ◌∙◌, SFits, w64, to_z, of_z, Option, Some, None, IfSome}
+use Rattle.std.proofs.Common.{◌≡◌, ℕ, zero, suc, ◌+◌, ◌*◌, ◌<◌, ◌≤◌, ◌⊎◌, inl, inr, List, [], ◌∷◌, ◌++◌, Vec, length, get_or, map, take, All, ℤ, pos, ◌≤ℤ◌, arith, sym, ap, subst, ◌∙◌, w64, to_z, of_z, Option, Some, None, IfSome}
 use Rattle.std.specs.declared.alloc.Global.{Global}
 use Rattle.std.specs.Int.{int_max}
 use Rattle.std.proofs.lemmas.Int.{ints, clamps, to_z-of_z}

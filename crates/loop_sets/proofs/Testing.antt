@@ -1,11 +1,9 @@
 -- The degree test of cells that are given as runs.
-use Rattle.std.proofs.Common.{◌≡◌, ℕ, ◌+◌, ◌<◌, ◌≤◌, Bool, true, false, cond, ◌||◌, Option, Some, None, IsSome, IfSome, MatchOption, List, [], ◌∷◌, map, ℤ, pos, ◌-ℤ◌, arith, refl, sym, ap, subst, ◌∙◌, All, ◌↔◌}
+use Rattle.std.proofs.Common.{◌≡◌, ℕ, ◌+◌, ◌<◌, Bool, true, false, cond, Option, Some, None, IsSome, IfSome, MatchOption, List, [], ◌∷◌, map, ℤ, pos, ◌-ℤ◌, arith, refl, sym, ap, subst, ◌∙◌, ◌↔◌}
 use Rattle.std.specs.Ordering.{int_eq}
-use Rattle.std.specs.Int.{int_max}
 use Rattle.std.specs.Option.{IsSomeAnd}
 use Rattle.std.specs.List.{AllByRecursion, fold, range_with_len}
 use Rattle.std.proofs.lemmas.Bool.{or_left, or_right}
-use Rattle.std.proofs.lemmas.Bool.Decides.{nat_tests}
 use Rattle.std.proofs.lemmas.Int.{ints}
 use Rattle.std.proofs.lemmas.List.Elements.{recursion_from_All, All-from_recursion}
 use Rattle.std.proofs.lemmas.List.FromFn.{get_or-map-range_with_len}
@@ -19,17 +17,17 @@ use Rattle.tplane_paver.specs.declared.runs.Run.{Run}
 use Rattle.tplane_paver.specs.Runs.{InRuns, AreInOrder}
 use Rattle.loop_degree.specs.declared.labels.Label.{Label}
 use Rattle.loop_degree.specs.Pairs.{has}
-use Rattle.loop_degree.specs.Cells.{Edge, IsCornerOf, boundary}
+use Rattle.loop_degree.specs.Cells.{Edge, boundary}
 use Rattle.loop_degree.specs.Labels.{LabelHolds, degree_of}
 use Rattle.loop_degree.specs.Steps.{Tubes, step_of, greatest_in, greatest_sum, step_bound_of}
-use Rattle.loop_degree.specs.Degree.{IsValid, change_in, HasLabel, PassesUnder}
+use Rattle.loop_degree.specs.Degree.{change_in, HasLabel, PassesUnder}
 use Rattle.loop_degree.proofs.Alls.{all-weaker}
 use Rattle.loop_degree.proofs.Sharing.{is_same-self}
-use Rattle.loop_prover.specs.First.{first_label, label_of}
+use Rattle.loop_prover.specs.First.{label_of}
 use Rattle.loop_prover.proofs.Holding.{first-holds}
-use Rattle.loop_sets.specs.Cells.{IsCellOf, AreCellsOf, pairs_in}
+use Rattle.loop_sets.specs.Cells.{AreCellsOf, pairs_in}
 use Rattle.loop_sets.specs.CellRuns.{IsOverSome}
-use Rattle.loop_sets.specs.Finding.{label_under, MeetsDegreeTest, IsTested}
+use Rattle.loop_sets.specs.Finding.{IsTested}
 use Rattle.loop_sets.specs.Turns.{turns_along}
 use Rattle.loop_sets.specs.Bounds.{step_at, greater_sum, EndBefore}
 use Rattle.loop_sets.specs.Views.{label_in, tested}

@@ -1,15 +1,14 @@
 -- The turns along the boundary of cells that are given as runs.
-use Rattle.std.proofs.Common.{◌≡◌, ℕ, zero, suc, ◌+◌, ◌-◌, ◌<◌, ◌≤◌, ◌⊎◌, inl, inr, Bool, true, false, cond, Option, Some, None, List, [], ◌∷◌, ◌++◌, length, take, ℤ, pos, arith, refl, sym, ap, subst, ◌∙◌}
+use Rattle.std.proofs.Common.{◌≡◌, ℕ, zero, suc, ◌+◌, ◌-◌, ◌<◌, ◌≤◌, ◌⊎◌, inl, inr, Bool, true, false, Option, Some, List, length, take, ℤ, arith, refl, sym, ap, ◌∙◌}
 use Rattle.std.proofs.lemmas.Bool.{false_from_ne_true}
 use Rattle.tplane_paver.specs.declared.runs.Run.{Run}
-use Rattle.tplane_paver.specs.Runs.{InRun, InRuns, run_at, AreInOrder}
+use Rattle.tplane_paver.specs.Runs.{InRun, run_at, AreInOrder}
 use Rattle.loop_degree.specs.declared.labels.Label.{Label}
 use Rattle.loop_degree.specs.Pairs.{has}
-use Rattle.loop_degree.specs.Cells.{next_a, next_b, next_both, has_before_a, has_before_b, outer_sides, boundary}
+use Rattle.loop_degree.specs.Cells.{next_b, has_before_a, has_before_b, outer_sides, boundary}
 use Rattle.loop_degree.specs.Boundary.{add_option}
 use Rattle.loop_sets.specs.Cells.{column, ticks_in, pairs_in}
-use Rattle.loop_sets.specs.Turns.{turn_of, turns_along, sum_along, sum_cells, has_beside, turn_unless, upright, row_before, open_turn, cell_turns}
-use Rattle.loop_sets.proofs.Lists.{split}
+use Rattle.loop_sets.specs.Turns.{turn_of, turns_along, sum_along, sum_cells, turn_unless, row_before, open_turn, cell_turns}
 use Rattle.loop_sets.proofs.Pairs.{pairs-has, pairs-more}
 use Rattle.loop_sets.proofs.Adding.{along-flat_map, along-four, sum_cells-append, sum_cells-column, sum_along-same, sum_along-four, sum_along-first, sum_along-last}
 

@@ -6,3 +6,4 @@ pub mod Turns
 pub mod Views
 pub mod Bounds
 pub mod Tables
+pub mod Provers

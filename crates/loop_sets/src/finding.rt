@@ -15,10 +15,12 @@ ghost use Rattle.loop_sets.specs.Finding.{IsFinding, IsTested};
 use crate::bounds::{bound_over, steps_of};
 use crate::cells::cell_runs;
 use crate::sure::least_sure;
+use crate::table::Table;
 use crate::tube::Tube;
 use crate::turns::{View, set_turns};
 use hull_tree::{Query, is_near};
 use std::alloc::{AllocError, Global};
+use std::marker::Model;
 use tplane_paver::{Component, Run};
 use tube_io::NoMemory;
 use tube_store::{SignalId, Store};
@@ -34,69 +36,103 @@ pub enum Finding {
     Unproved,
 }
 
-/// What is found of a component of a query's possible pairs, in a store: its least sure pair; else its degree, where the degree test is met;
-/// else nothing. Where it is not [`Finding::Unproved`], each trajectory in the store that has these rates has a revisit in the set.
+/// What is found of the components of a query's possible pairs, in a store. A contract sees the store, the query, and the rates of its signals.
 ///
-/// The store is not to be empty, the signals are to be its own, and the radius 0 to 2,000,000,000. Memory grows with the ticks and the runs
-/// of the set, and labels are asked for at the boundary of its cells alone.
-pub fn prove(
-    alloc: Global,
-    set: &Component,
-    store: &Store,
-    q: &Query,
-    rates_x: &[SignalId],
-    rates_y: &[SignalId],
-) -> Result<Finding, NoMemory>
-    requires filled { IsSome store.now.box }
-    requires asked { IsAsked (length store.now.shape.signals) q.now }
-    requires rates_x { All (λ r. r.0 < length store.now.shape.signals) rates_x.now }
-    requires rates_y { All (λ r. r.0 < length store.now.shape.signals) rates_y.now }
-    requires set { IfSome store.now.box (λ xs. IsComponent (plane_of store.now.shape xs q.now) set.now) }
-    ensures { IfOk result (λ found. IfSome store.now.box (λ xs. IsFinding store.now.shape xs q.now (map (λ r. r.0) rates_x.now) (map (λ r. r.0) rates_y.now) set.now found)) }
-{
-    let x = Tube::new(alloc, store, q.x)?;
-    let y = Tube::new(alloc, store, q.y)?;
-    let runs = set.runs();
-    if let Some((a, b)) = least_sure(&x, &y, q, runs) {
-        return Ok(Finding::Sure(a, b));
-    }
-    match degree_of(alloc, runs, store, q, rates_x, rates_y)? {
-        Some(degree) => Ok(Finding::Degree(degree)),
-        None => Ok(Finding::Unproved),
-    }
+/// The tubes of both signals and their greatest steps are kept, with tables: their memory and their time are those of a query, and a set costs
+/// what its runs and sides do.
+#[derive(Drop)]
+pub struct Prover<'a> {
+    store: &'a Store,
+    query: &'a Query,
+    // The rates by which the steps are bounded.
+    rates_x: &'a [SignalId],
+    rates_y: &'a [SignalId],
+    x: Tube,
+    y: Tube,
+    steps_x: Table,
+    steps_y: Table,
 }
 
-/// The degree of the cells of a set, where they meet the degree test.
-fn degree_of(
-    alloc: Global,
-    set: &[Run],
-    store: &Store,
-    q: &Query,
-    rates_x: &[SignalId],
-    rates_y: &[SignalId],
-) -> Result<Option<i64>, AllocError>
-    requires order { AreInOrder set.now }
-    requires few { length set.now ≤ most_runs }
-    requires filled { IsSome store.now.box }
-    requires asked { IsAsked (length store.now.shape.signals) q.now }
-    requires rates_x { All (λ r. r.0 < length store.now.shape.signals) rates_x.now }
-    requires rates_y { All (λ r. r.0 < length store.now.shape.signals) rates_y.now }
-    ensures { IfOk result (λ degree. IfSome store.now.box (λ xs. IsTested store.now.shape xs q.now (map (λ r. r.0) rates_x.now) (map (λ r. r.0) rates_y.now) set.now degree)) }
-{
-    store.grid().known();
-    let steps_x = steps_of(alloc, store, q.x, rates_x)?;
-    let steps_y = steps_of(alloc, store, q.y, rates_y)?;
-    let cells = cell_runs(alloc, set, store.grid().ticks(), q.gap)?;
-    let d1 = bound_over(&steps_x, &cells);
-    let d2 = bound_over(&steps_y, &cells);
-    let view = View {
-        store,
-        query: q,
-        d1,
-        d2,
-    };
-    let turns = set_turns(&view, &cells);
-    Ok(tested(q, d1, d2, turns))
+impl<'a> Model for Prover<'a> {
+    ghost use Rattle.std.specs.Prelude.{map};
+    ghost use Rattle.loop_sets.specs.Provers.{Asking, IsReady};
+
+    ghost Value = { Asking };
+
+    ghost view = { λ p. record { store = p.store.now; query = p.query.now; rates_x = map (λ r. r.0) p.rates_x.now; rates_y = map (λ r. r.0) p.rates_y.now } };
+
+    ghost invariant = { λ p. IsReady (record { store = p.store.now; query = p.query.now; rates_x = map (λ r. r.0) p.rates_x.now; rates_y = map (λ r. r.0) p.rates_y.now }) p.x p.y p.steps_x p.steps_y };
+}
+
+impl<'a> Prover<'a> {
+    /// For a query in a store, which is not to be empty: the signals are to be its own, and the radius 0 to 2,000,000,000.
+    pub fn new(
+        alloc: Global,
+        store: &'a Store,
+        query: &'a Query,
+        rates_x: &'a [SignalId],
+        rates_y: &'a [SignalId],
+    ) -> Result<Prover<'a>, NoMemory>
+        requires filled { IsSome store.now.box }
+        requires asked { IsAsked (length store.now.shape.signals) query.now }
+        requires rates_x { All (λ r. r.0 < length store.now.shape.signals) rates_x.now }
+        requires rates_y { All (λ r. r.0 < length store.now.shape.signals) rates_y.now }
+        ensures { IfOk result (λ p. p ≡ record { store = store.now; query = query.now; rates_x = map (λ r. r.0) rates_x.now; rates_y = map (λ r. r.0) rates_y.now }) }
+    {
+        let x = Tube::new(alloc, store, query.x)?;
+        let y = Tube::new(alloc, store, query.y)?;
+        let steps_x = steps_of(alloc, store, query.x, rates_x)?;
+        let steps_y = steps_of(alloc, store, query.y, rates_y)?;
+        Ok(Prover {
+            store,
+            query,
+            rates_x,
+            rates_y,
+            x,
+            y,
+            steps_x,
+            steps_y,
+        })
+    }
+
+    /// What is found of a component: its least sure pair; else its degree, where the degree test is met; else nothing. Where it is not
+    /// [`Finding::Unproved`], each trajectory in the store that has these rates has a revisit in the set.
+    ///
+    /// Memory grows with the runs of the set, and labels are asked for at the boundary of its cells alone.
+    pub fn finding(&self, alloc: Global, set: &Component) -> Result<Finding, NoMemory>
+        requires { IfSome self.now.store.box (λ xs. IsComponent (plane_of self.now.store.shape xs self.now.query) set.now) }
+        ensures { IfOk result (λ found. IfSome self.now.store.box (λ xs. IsFinding self.now.store.shape xs self.now.query self.now.rates_x self.now.rates_y set.now found)) }
+    {
+        let runs = set.runs();
+        if let Some((a, b)) = least_sure(&self.x, &self.y, self.query, runs) {
+            return Ok(Finding::Sure(a, b));
+        }
+        match self.degree_of(alloc, runs)? {
+            Some(degree) => Ok(Finding::Degree(degree)),
+            None => Ok(Finding::Unproved),
+        }
+    }
+
+    // The degree of the cells of a set, where they meet the degree test.
+    fn degree_of(&self, alloc: Global, set: &[Run]) -> Result<Option<i64>, AllocError>
+        requires order { AreInOrder set.now }
+        requires few { length set.now ≤ most_runs }
+        ensures { IfOk result (λ degree. IfSome self.now.store.box (λ xs. IsTested self.now.store.shape xs self.now.query self.now.rates_x self.now.rates_y set.now degree)) }
+    {
+        self.store.grid().known();
+        let ticks = self.store.grid().ticks();
+        let cells = cell_runs(alloc, set, ticks, self.query.gap)?;
+        let d1 = bound_over(&self.steps_x, &cells);
+        let d2 = bound_over(&self.steps_y, &cells);
+        let view = View {
+            store: self.store,
+            query: self.query,
+            d1,
+            d2,
+        };
+        let turns = set_turns(&view, &cells);
+        Ok(tested(self.query, d1, d2, turns))
+    }
 }
 
 /// The degree where it is not 0 and the step bounds are near enough.

@@ -14,6 +14,6 @@ mod tube;
 mod turns;
 
 pub use cells::set_cells;
-pub use finding::{Finding, prove};
+pub use finding::{Finding, Prover};
 pub use laws::{component_law, finding_law};
 pub use loop_prover::{Label, check_cells, degree_law, label, labels_of, step_bound};

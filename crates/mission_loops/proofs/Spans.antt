@@ -1,5 +1,5 @@
 -- The ticks of a pair of a set lie in the spans that are printed of the set.
-use Rattle.std.proofs.Common.{◌≡◌, ℕ, ◌<◌, List, [], ◌∷◌, Option, Some, None, arith, ap, length}
+use Rattle.std.proofs.Common.{◌≡◌, ℕ, ◌<◌, List, [], ◌∷◌, Some, None, arith, length}
 use Rattle.std.proofs.lemmas.List.{length-map}
 use Rattle.tplane_paver.specs.declared.runs.Run.{Run}
 use Rattle.tplane_paver.specs.Runs.{InRuns}

@@ -15,7 +15,7 @@ use crate::records::{first_items, rates_of};
 use crate::sets::FoundSets;
 use hull_tree::{HullTree, Query};
 use loop_report::Found;
-use loop_sets::prove;
+use loop_sets::Prover;
 use mission_items::{Item, Mission};
 use std::alloc::Global;
 use std::sync::ledger::Ledger;
@@ -61,9 +61,10 @@ fn proved(
     ensures sets { IfOk result (λ found. sets_in found.items ≡ sets.items) }
     ensures found { IfOk result (λ found. IfSome store.now.box (λ xs. AreFound store.now.shape xs q.now (map (λ r. r.0) rates_x.now) (map (λ r. r.0) rates_y.now) found.items)) }
 {
+    let prover = Prover::new(alloc, store, q, rates_x, rates_y)?;
     let mut found = Vec::new(alloc);
     for set in sets {
-        let finding = prove(alloc, &set, store, q, rates_x, rates_y)?;
+        let finding = prover.finding(alloc, &set)?;
         found.push(Found { set, finding })?;
     }
     Ok(found)

@@ -1,4 +1,4 @@
-use Rattle.std.proofs.Common.{w64, to_z, of_z, SFits, arith, ◌∙◌, ap, ℤ, ◌+◌, ◌-◌, ◌/◌}
+use Rattle.std.proofs.Common.{w64, SFits, arith, ◌∙◌, ap, ℤ, ◌+◌, ◌-◌, ◌/◌}
 use Rattle.std.proofs.lemmas.Int.{ints, clamps, to_z-of_z}
 use Rattle.std.specs.List.{fold}
 use Rattle.loop_sets.specs.Cells.{column}

@@ -3,7 +3,6 @@ use Rattle.std.proofs.lemmas.Result.{IfOk-weaker}
 use Rattle.std.proofs.lemmas.List.Sorted.{answers_always}
 use Rattle.tplane_paver.specs.declared.runs.Run.{Run}
 use Rattle.tplane_paver.specs.Runs.{InRuns}
-use Rattle.loop_sets.specs.CellRuns.{IsOverSome}
 use Rattle.loop_sets.proofs.Lists.{iff-trans}
 use Rattle.loop_sets.proofs.Merging.{some-sorted, begin-sorted, sorted-pairs}
 use Rattle.loop_sets.proofs.cells.cell_runs.Goals as goal

@@ -1,4 +1,3 @@
-use Rattle.std.proofs.Common.{arith}
 use Rattle.loop_sets.proofs.Pairs.{pairs-push}
 use Rattle.loop_sets.proofs.Over.{cells-all}
 use Rattle.loop_sets.proofs.cells.set_cells.Goals as goal

@@ -1,4 +1,4 @@
-use Rattle.std.proofs.Common.{◌≡◌, ℤ, neg_ℤ, ◌≤ℤ◌, pos, w64, SFits, arith, ap, ◌∙◌}
+use Rattle.std.proofs.Common.{◌≡◌, neg_ℤ, ◌≤ℤ◌, pos, w64, SFits, arith, ap, ◌∙◌}
 use Rattle.std.proofs.lemmas.Int.{ints, to_z-of_z}
 use Rattle.tube_spec.specs.Span.{Span, sub_of}
 use Rattle.hull_tree.proofs.Gaps.{same-gap, small_fits}

@@ -1,4 +1,4 @@
-use Rattle.std.proofs.Common.{◌≡◌, map, take, neg_ℤ}
+use Rattle.std.proofs.Common.{◌≡◌, map, take}
 use Rattle.loop_sets.specs.Tables.{AreSmall}
 use Rattle.loop_sets.proofs.tube.lower_bounds.Given as goal
 

@@ -1,6 +1,6 @@
 use Rattle.std.proofs.Common.{ℤ, neg_ℤ, ap, ◌∙◌, ◌++◌, ◌∷◌, [], subst, sym}
 use Rattle.tube_spec.specs.Span.{Span}
-use Rattle.loop_sets.specs.Tables.{AreSmall, IsSmallNumber}
+use Rattle.loop_sets.specs.Tables.{AreSmall}
 use Rattle.loop_sets.proofs.Tabling.{small-more, bounds-more, bounded-tick, small-hi, read-small}
 use Rattle.loop_sets.proofs.tube.upper_bounds.Goals as goal
 

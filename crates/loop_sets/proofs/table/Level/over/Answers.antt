@@ -1,6 +1,5 @@
 use Rattle.std.proofs.Common.{arith, ◌+◌, ◌-◌}
 use Rattle.std.proofs.lemmas.Int.{ints, clamps}
-use Rattle.loop_sets.specs.Tables.{number_at}
 use Rattle.loop_sets.proofs.Tabling.{level-top, read-at}
 use Rattle.loop_sets.proofs.table.Level.over.Goals as goal
 
