@@ -1,7 +1,7 @@
 //! The form of a source of two logs, and of the ranges that were measured between their robots.
 //!
 //! It is `pair N1 N2`, the N1 bytes of the first log, the N2 bytes of the second one, `offset LO HI`, any number of lines
-//! `link K R1 R2 X1 Y1 X2 Y2`, and `end`. Each of these parts is ended by byte 10, and nothing follows the last one. Words are parted
+//! `link K NEAR FAR X Y X Y`, and `end`. Each of these parts is ended by byte 10, and nothing follows the last one. Words are parted
 //! by one space. Numbers are spelled as in a log.
 #![tactic(auto)]
 
