@@ -3,3 +3,4 @@ pub mod Kept
 pub mod Cells
 pub mod Adding
 pub mod OverTicks
+pub mod Resetting

@@ -3,3 +3,4 @@ pub mod State
 pub mod Kept
 pub mod Cuts
 pub mod Places
+pub mod Resets

@@ -5,8 +5,9 @@
 //! Intervals are in millimetres, or in whatever unit the signal or variable has.
 #![tactic(auto)]
 
-ghost use Rattle.std.specs.Prelude.{◌≡◌, ◌≢◌, ℕ, ◌+◌, ◌*◌, ◌<◌, ◌≤◌, ◌^◌, ◌++◌, [], ◌∷◌, ◌↔◌, IsTrue, IsFalse, MatchOption, IsSome, IfSome, IsNone, OnOk, OnErr, IfOk, IsErrOf, None, Some, length, set, slice_index, sum_by, replicate, false, ◌-◌};
+ghost use Rattle.std.specs.Prelude.{◌≡◌, ◌≢◌, ℕ, ◌+◌, ◌*◌, ◌<◌, ◌≤◌, ◌^◌, ◌++◌, [], ◌∷◌, ◌↔◌, IsTrue, IsFalse, MatchOption, IsSome, IfSome, IsNone, OnOk, OnErr, IfOk, IsErrOf, None, Some, length, set, slice_index, sum_by, replicate, false, ◌-◌, map, All};
 ghost use Rattle.std.specs.Vec.{vec_capacity};
+ghost use Rattle.std.specs.List.Sorted.{IsStrictlyIncreasing};
 ghost use Rattle.std.specs.VecDeque.{deque_capacity};
 ghost use Rattle.tube_spec.specs.Limits.{greatest_bound, most_cells};
 ghost use Rattle.tube_spec.specs.Span.{IsProper, IsWithin, IsBounded, meet_of, width_of};
@@ -20,6 +21,7 @@ ghost use Rattle.tube_store.specs.State.{State, IsStore, no_cells, state_with, t
 ghost use Rattle.tube_store.specs.Cuts.{MatchCut, Cuts};
 ghost use Rattle.tube_store.specs.Places.{MeetsTick};
 ghost use Rattle.tube_store.specs.Touched.{AreTouched};
+ghost use Rattle.tube_store.specs.Resets.{cell_in, box_with};
 ghost use Rattle.tube_store.specs.declared.StoreFault.TheVariants.{NoMemory};
 
 use int_interval::Interval;
@@ -279,6 +281,45 @@ impl Store {
         }
     }
 
+    /// Gives each cell of a list an interval of its own, and so takes back what was narrowed. All other cells stay, and no cell is
+    /// touched then. The empty box comes back only as a whole. It takes no memory.
+    pub fn reset(&mut self, cells: &[(CellId, Interval)])
+        requires named { All (λ r. cell_in r < self.old.shape.cells) cells.now }
+        requires rising { IsStrictlyIncreasing (map cell_in cells.now) }
+        requires bounded { All (λ r. IsBounded greatest_bound r.1) cells.now }
+        requires whole { IsNone self.old.box → length cells.now ≡ self.old.shape.cells }
+        ensures shape { self.new.shape ≡ self.old.shape }
+        ensures filled { IsSome self.new.box }
+        ensures given { IfSome self.new.box (λ ys. All (λ r. cell_at ys (cell_in r) ≡ r.1) cells.now) }
+        ensures others { IfSome self.old.box (λ xs. IfSome self.new.box (λ ys. (k : ℕ) → All (λ r. cell_in r ≢ k) cells.now → cell_at ys k ≡ cell_at xs k)) }
+        ensures untouched { self.new.touched ≡ [] }
+    {
+        self.emptied = false;
+        self.untouch();
+        for &(cell, to) in cells {
+            self.put(cell, to);
+        }
+    }
+
+    /// Takes all cells out of the list of touched ones.
+    fn untouch(&mut self)
+        ensures { self.new ≡ record self.old { touched = [] } }
+    {
+        while let Some(_cell) = self.next_touched() {}
+    }
+
+    /// Puts an interval in the place of a cell's.
+    fn put(&mut self, c: CellId, to: Interval)
+        requires named { c.0 < self.old.shape.cells }
+        requires bounded { IsBounded greatest_bound to }
+        ensures { self.new ≡ record self.old { box = box_with self.old.box c.0 to } }
+    {
+        to.known();
+        let place = c.0 as usize;
+        self.total = self.total - self.cells[place].width() + to.width();
+        self.cells[place] = to;
+    }
+
     /// What a signal may be at a tick: its gate where the tick is a boundary, and the envelope of the
     /// tick's slice otherwise.
     pub fn at_tick(&self, signal: SignalId, tick: u32) -> Interval
@@ -486,6 +527,35 @@ mod tests {
         assert_eq!(rt; store.next_touched(), None);
         assert_eq!(rt; narrow(&rt, &mut store, 5, 6, 7), Cut::Empty);
         assert_eq!(rt; (store.is_empty(), store.measure()), (true, 0));
+        Ok(())
+    }
+
+    /// Gives a cell an interval of its own.
+    fn reset(rt: &impl Abort, store: &mut Store, cell: u32, lo: i64, hi: i64) {
+        let to = interval(rt, lo, hi);
+        assert!(rt; to.lo() >= -100 && to.hi() <= 100);
+        assert!(rt; cell < store.cells() && !store.is_empty());
+        store.reset(&[(CellId(cell), to)]);
+    }
+
+    #[test]
+    fn cells_are_reset(rt: HostRuntime) -> Result<(), Fail> {
+        let mut store = store_over(&rt, rt.alloc(), &[0, 5, 8])?;
+        assert_eq!(rt; narrow(&rt, &mut store, 0, 3, 4), Cut::Narrowed);
+        assert_eq!(rt; narrow(&rt, &mut store, 2, -7, 7), Cut::Narrowed);
+        assert_eq!(rt; narrow(&rt, &mut store, 5, 3, 20), Cut::Narrowed);
+        reset(&rt, &mut store, 0, -50, 60);
+        reset(&rt, &mut store, 5, 2, 9);
+        assert_eq!(rt; store.next_touched(), None);
+        assert_eq!(rt;
+            (
+                get(&rt, &store, 0),
+                get(&rt, &store, 2),
+                get(&rt, &store, 5)
+            ),
+            ((-50, 60), (-7, 7), (2, 9))
+        );
+        assert_eq!(rt; store.measure(), 3 * 200 + 110 + 14 + 7);
         Ok(())
     }
 
