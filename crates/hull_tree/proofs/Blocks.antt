@@ -1,6 +1,7 @@
 -- Hulls over blocks of ticks, and how a level is made of the one below.
 use Rattle.std.proofs.Common.{◌≡◌, ℕ, zero, suc, ◌+◌, ◌-◌, ◌*◌, ◌/◌, ◌^◌, ◌<◌, ◌≤◌, ◌≢◌, ◌⊎◌, inl, inr, refl, List, [], ◌∷◌, ◌++◌, Vec, Global, vec_items, map, min, length, get_or, pos, arith, sym, ap, subst, ◌∙◌}
 use Rattle.std.proofs.Math.Nat.{pow-suc}
+use Rattle.std.proofs.Math.Pow.{pow_mono}
 use Rattle.std.proofs.Math.Seq.{get_or-append_seam}
 use Rattle.std.proofs.lemmas.Int.{ints, clamps}
 use Rattle.std.proofs.lemmas.List.{get_or-map, length-map, length-append, map-append}
@@ -188,3 +189,34 @@ side-more side (suc k) n s some e =
     let h : side ≡ 2 ^ k = s ∙ ap (λ (x : ℕ). 2 ^ x) g in
     let p : 2 ^ suc k ≡ side * 2 = omega (arith, pow-suc 2 k, h) in
     sym p ∙ ap (λ (x : ℕ). 2 ^ x) (sym f)
+
+-- the block of twice the side that holds a tick
+pub block-above : (block side tick : ℕ) → block * side ≤ tick → tick < block * side + side → ((block / 2) * (side * 2) ≤ tick) × (tick < (block / 2) * (side * 2) + side * 2)
+block-above block side tick h k =
+    let half : ℕ = block / 2 in
+    elim (parts block) [
+      | inl e ↦ let p : block * side ≡ (half * 2) * side = ap (λ (n : ℕ). n * side) e in (omega (arith, h, k, p), omega (arith, h, k, p))
+      | inr e ↦ let p : block * side ≡ (half * 2 + 1) * side = ap (λ (n : ℕ). n * side) e in (omega (arith, h, k, p), omega (arith, h, k, p))
+    ]
+  where
+    parts : (n : ℕ) → (n ≡ n / 2 * 2) ⊎ (n ≡ n / 2 * 2 + 1)
+    parts n = grind arith
+
+-- of two blocks that are not the same the later one begins at its side or after it
+pub apart : (low high side last : ℕ) → low ≤ high → low ≢ high → high * side ≤ last → side ≤ last
+apart low zero side last h d k = absurd (d (omega (arith, h)))
+apart low (suc high) side last h d k = omega (arith, k)
+
+-- a block whose side is not above twice its last tick stands in one of the levels
+pub level-below : (level levels side last n : ℕ) → side ≡ 2 ^ level → side ≤ 2 * last + 1 → last < n → n ≤ 2 ^ (levels - 1) → 1 ≤ levels → level < levels
+level-below level levels side last n s h k l m = elim (either level levels) [
+  | inl less ↦ less
+  | inr more ↦
+      let e : levels ≡ suc (levels - 1) = omega (arith, m) in
+      let p : 2 ^ levels ≡ 2 ^ (levels - 1) * 2 = ap (λ (x : ℕ). 2 ^ x) e ∙ pow-suc 2 (levels - 1) in
+      let q : 2 ^ levels ≤ 2 ^ level = pow_mono more in
+      absurd (omega (arith, s, h, k, l, p, q))
+]
+  where
+    either : (x y : ℕ) → (x < y) ⊎ (y ≤ x)
+    either x y = grind arith

@@ -73,17 +73,38 @@ impl RangeTree {
         ensures bounds { result ≡ bounds_over self.now first (last - first) }
         ensures small { IsSmall result }
     {
-        let top = self.levels.len() - 1;
+        let (level, block, side) = lowest_block(first, last);
         over(
             &self.ticks,
             &self.levels,
-            top,
-            0,
-            self.side,
+            level,
+            block,
+            side,
             first as usize,
             last as usize,
         )
     }
+}
+
+/// The lowest block that holds two ticks: its level, its number in the level, and its side.
+fn lowest_block(first: u32, last: u32) -> (usize, usize, usize)
+    requires order { first ≤ last }
+    ensures side { result.2 ≡ 2 ^ result.0 }
+    ensures begins { result.1 * result.2 ≤ first }
+    ensures ends { last < result.1 * result.2 + result.2 }
+    ensures low { result.2 ≤ 2 * last + 1 }
+{
+    let mut level = 0;
+    let mut side = 1;
+    let mut low = first as usize;
+    let mut high = last as usize;
+    while low != high {
+        level += 1;
+        side *= 2;
+        low /= 2;
+        high /= 2;
+    }
+    (level, low, side)
 }
 
 /// The bounds over a range within a block: the block's own where the range is all of it, and else those of its two halves.

@@ -102,22 +102,27 @@ impl HullTree {
         ensures { result ≡ judged self.now (record { first_a = a.0; last_a = a.1; first_b = b.0; last_b = b.1 }) }
     {
         let gap = u64::from(self.gap);
+        if u64::from(b.1) < u64::from(a.0) + gap {
+            return Judged::Out;
+        }
         let x_a = self.x.over(a.0, a.1);
         let x_b = self.x.over(b.0, b.1);
+        let least_x = least_gap(x_a, x_b);
+        if least_x > u64::from(self.radius) {
+            return Judged::Out;
+        }
         let y_a = self.y.over(a.0, a.1);
         let y_b = self.y.over(b.0, b.1);
-        let least_x = least_gap(x_a, x_b);
         let least_y = least_gap(y_a, y_b);
-        if u64::from(b.1) < u64::from(a.0) + gap
-            || !is_near(self.norm, self.radius, least_x, least_y)
-        {
+        if !is_near(self.norm, self.radius, least_x, least_y) {
             return Judged::Out;
+        }
+        if u64::from(a.1) + gap > u64::from(b.0) {
+            return Judged::Mixed;
         }
         let greatest_x = greatest_gap(x_a, x_b);
         let greatest_y = greatest_gap(y_a, y_b);
-        if u64::from(a.1) + gap <= u64::from(b.0)
-            && is_near(self.norm, self.radius, greatest_x, greatest_y)
-        {
+        if is_near(self.norm, self.radius, greatest_x, greatest_y) {
             return Judged::Within;
         }
         Judged::Mixed
