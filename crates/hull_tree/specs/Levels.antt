@@ -30,15 +30,13 @@ pub record AreLevels (xs : List Span) (levels : List (List Bounds)) : Type 0 whe
   pub each : (k : ℕ) → k < length levels → IsLevel xs (2 ^ k) (level_at levels k)
 
 -- what holds of every tree over the intervals of ticks: the last level has one block
-pub record IsTree (xs : List Span) (rows : List (List Bounds)) (side : ℕ) : Type 0 where
+pub record IsTree (xs : List Span) (rows : List (List Bounds)) : Type 0 where
   pub some : 1 ≤ length xs
   pub short : length xs ≤ most_ticks + 1
   pub proper : IsBox xs
   pub bounded : AreBounded xs
   pub levels : AreLevels xs rows
-  pub power : side ≡ 2 ^ (length rows - 1)
-  pub wide : length xs ≤ side
-  pub low : side ≤ 200002
+  pub wide : length xs ≤ 2 ^ (length rows - 1)
 
 -- A level from the one below: each two neighbours joined, and a last one that stands alone as it is.
 pub record IsHalved (row above : List Bounds) : Type 0 where

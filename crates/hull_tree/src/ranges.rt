@@ -18,7 +18,6 @@ use std::marker::Model;
 pub struct RangeTree {
     ticks: Vec<Interval>,
     levels: Vec<Vec<Bounds>>,
-    side: usize,
 }
 
 impl Model for RangeTree {
@@ -30,7 +29,7 @@ impl Model for RangeTree {
 
     ghost view = { λ t. t.ticks.items };
 
-    ghost invariant = { λ t. IsTree t.ticks.items (levels_of t.levels.items) t.side };
+    ghost invariant = { λ t. IsTree t.ticks.items (levels_of t.levels.items) };
 }
 
 impl RangeTree {
@@ -50,11 +49,7 @@ impl RangeTree {
             levels.push(above)?;
             side *= 2;
         }
-        Ok(RangeTree {
-            ticks,
-            levels,
-            side,
-        })
+        Ok(RangeTree { ticks, levels })
     }
 
     /// How many ticks there are.

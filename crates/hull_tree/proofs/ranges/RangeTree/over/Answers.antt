@@ -1,4 +1,4 @@
-use Rattle.std.proofs.Common.{◌-◌, ◌≤◌, ◌<◌, ◌^◌, List, length, arith, sym, subst}
+use Rattle.std.proofs.Common.{◌-◌, ◌<◌, List, length, arith, sym, subst}
 use Rattle.tube_spec.specs.Span.{Span}
 use Rattle.hull_tree.specs.Judging.{IsSmall, bounds_over}
 use Rattle.hull_tree.proofs.Judgements.{small-over}
@@ -10,9 +10,8 @@ pub over-requires-clause-level : goal.over-requires-clause-level
 over-requires-clause-level c =
     let tree = c.self.invariant in
     let rows = levels_of c.self.inside.levels.items in
-    let wide : length c.self.inside.ticks.items ≤ 2 ^ (length rows - 1) = omega (arith, tree.wide, tree.power) in
     let below : c.lowest_block-level.result.0 < length rows = level-below c.lowest_block-level.result.0 (length rows) c.lowest_block-level.result.2 c.args.last (length c.self.inside.ticks.items)
-    c.lowest_block-level.ensures.side c.lowest_block-level.ensures.low (subst (λ (xs : List Span). c.args.last < length xs) (sym c.self.view_is) c.requires.within) wide tree.levels.some in
+    c.lowest_block-level.ensures.side c.lowest_block-level.ensures.low (subst (λ (xs : List Span). c.args.last < length xs) (sym c.self.view_is) c.requires.within) tree.wide tree.levels.some in
     omega (arith, below, levels-length c.self.inside.levels.items, c.deref-2.ensures.len)
 
 pub returns-clause-small : goal.returns-clause-small
