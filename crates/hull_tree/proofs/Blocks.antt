@@ -1,10 +1,10 @@
 -- Hulls over blocks of ticks, and how a level is made of the one below.
-use Rattle.std.proofs.Common.{◌≡◌, ℕ, zero, suc, ◌+◌, ◌-◌, ◌*◌, ◌/◌, ◌^◌, ◌<◌, ◌≤◌, ◌≢◌, ◌⊎◌, inl, inr, refl, List, [], ◌∷◌, ◌++◌, Vec, Global, vec_items, map, min, length, get_or, pos, arith, sym, ap, subst, ◌∙◌}
+use Rattle.std.proofs.Common.{◌≡◌, ℕ, zero, suc, ◌+◌, ◌-◌, ◌*◌, ◌/◌, ◌^◌, ◌<◌, ◌≤◌, ◌≢◌, ◌⊎◌, inl, inr, refl, List, [], ◌∷◌, ◌++◌, Vec, Global, vec_items, min, length, get_or, pos, arith, sym, ap, subst, ◌∙◌}
 use Rattle.std.proofs.Math.Nat.{pow-suc}
 use Rattle.std.proofs.Math.Pow.{pow_mono}
 use Rattle.std.proofs.Math.Seq.{get_or-append_seam}
 use Rattle.std.proofs.lemmas.Int.{ints, clamps}
-use Rattle.std.proofs.lemmas.List.{get_or-map, length-map, length-append, map-append}
+use Rattle.std.proofs.lemmas.List.{get_or-map, get_or_default, length-map, length-append, map-append}
 use Rattle.std.proofs.lemmas.Nat.{pow_pos}
 use Rattle.std.proofs.Math.ListN.{get_or-append}
 use Rattle.tube_spec.specs.Span.{Span, point}
@@ -38,22 +38,23 @@ over-join xs a m last h k =
 before-join : (xs : List Span) (a m end : ℕ) → a < m → m < end → both (bounds_before xs a m) (bounds_before xs m end) ≡ bounds_before xs a end
 before-join xs a m end h k = over-join xs a m (end - 1) h (omega arith)
 
--- each tick by itself
-pub level-leaves : (xs : List Span) → IsLevel xs 1 (map bounds_of xs)
-level-leaves xs = record {
-  few = λ i h. omega (arith, h, len);
-  all = λ i h. omega (arith, h, len);
-  hulls = λ i d h. get_or-map bounds_of xs i (point (pos 0)) d (omega (arith, h)) ∙ one i (omega (arith, h));
-}
-  where
-    len : length (map bounds_of xs) ≡ length xs
-    len = length-map xs bounds_of
+-- a tick more
+pub over-more : (xs : List Span) (first i : ℕ) (x : Span) (hull more : Bounds) → first < i → i < length xs → x ≡ get_or xs i x → hull ≡ bounds_over xs first (i - 1 - first) → more ≡ both hull (bounds_of x)
+    → more ≡ bounds_over xs first (i + 1 - 1 - first)
+over-more xs first i x hull more h l at e m =
+    let n : i + 1 - 1 - first ≡ suc (i - 1 - first) = omega (arith, h) in
+    let k : first + suc (i - 1 - first) ≡ i = omega (arith, h) in
+    let read : x ≡ cell_at xs i = at ∙ get_or_default xs i x (point (pos 0)) l in
+    rw (n, k) (m ∙ ap (both hull) (ap bounds_of read) ∙ ap (λ (p : Bounds). both p (bounds_of (cell_at xs i))) e)
 
-    one : (i : ℕ) → i < length xs → bounds_of (cell_at xs i) ≡ bounds_before xs (i * 1) (min (i * 1 + 1) (length xs))
-    one i h =
-        let e : i * 1 ≡ i = omega arith in
-        let f : min (i + 1) (length xs) - 1 - i ≡ 0 = omega arith in
-        rw (e, f)
+-- the hulls of each four ticks make a level
+pub level-fours : (xs : List Span) (row : List Bounds) (n : ℕ) → n ≡ (length xs + 3) / 4 → length row ≡ n
+    → ((i : ℕ) (d : Bounds) → i < n → get_or row i d ≡ bounds_before xs (i * 4) (min (i * 4 + 4) (length xs))) → IsLevel xs 4 row
+level-fours xs row n e len each = record {
+  few = λ i h. omega (arith, h, len, e);
+  all = λ i h. omega (arith, h, len, e);
+  hulls = λ i d h. each i d (omega (arith, h, e));
+}
 
 same-before : (xs : List Span) (a b c d : ℕ) → a ≡ c → b ≡ d → bounds_before xs a b ≡ bounds_before xs c d
 same-before xs a b c d e f = cc
@@ -105,8 +106,8 @@ levels-length levels = length-map levels vec_items
 pub levels-more : (xs : List Span) (levels : List (Vec Bounds Global)) (above below : Vec Bounds Global) → AreLevels xs (levels_of levels)
     → below ≡ get_or levels (length levels - 1) below → IsHalved below.items above.items → AreLevels xs (levels_of (levels ++ above ∷ []))
 levels-more xs levels above below has is half = rw (levels-push levels above) (record {
-  some = omega (arith, len);
-  each = λ k h. at k (which k h);
+  some = omega (arith, len, has.some);
+  each = λ k deep h. at k deep (which k h);
 })
   where
     rows : List (List Bounds)
@@ -130,13 +131,13 @@ levels-more xs levels above below has is half = rw (levels-push levels above) (r
     made =
         let k : ℕ = length rows - 1 in
         let s : length rows ≡ suc k = omega (arith, has.some) in
-        let low : IsLevel xs (2 ^ k) below.items = subst (IsLevel xs (2 ^ k)) last (has.each k (omega (arith, has.some))) in
+        let low : IsLevel xs (2 ^ k) below.items = subst (IsLevel xs (2 ^ k)) last (has.each k (omega (arith, has.some)) (omega (arith, has.some))) in
         let up : IsLevel xs (2 * 2 ^ k) above.items = level-halved xs (2 ^ k) below.items above.items (pow_pos k) low half in
         subst (λ (x : ℕ). IsLevel xs x above.items) (let e : 2 * 2 ^ k ≡ 2 ^ suc k = omega (arith, pow-suc 2 k) in e ∙ ap (λ (n : ℕ). 2 ^ n) (sym s)) up
 
-    at : (k : ℕ) → (k < length rows) ⊎ (k ≡ length rows) → IsLevel xs (2 ^ k) (level_at (rows ++ above.items ∷ []) k)
-    at k (inl h) = subst (IsLevel xs (2 ^ k)) (sym (get_or-append rows (above.items ∷ []) [] k h)) (has.each k h)
-    at k (inr e) =
+    at : (k : ℕ) → 2 ≤ k → (k < length rows) ⊎ (k ≡ length rows) → IsLevel xs (2 ^ k) (level_at (rows ++ above.items ∷ []) k)
+    at k deep (inl h) = subst (IsLevel xs (2 ^ k)) (sym (get_or-append rows (above.items ∷ []) [] k h)) (has.each k deep h)
+    at k deep (inr e) =
         subst (λ (n : ℕ). IsLevel xs (2 ^ n) (level_at (rows ++ above.items ∷ []) n)) (sym e)
         (subst (IsLevel xs (2 ^ length rows)) (sym (get_or-append_seam rows above.items [] [])) made)
 
@@ -151,25 +152,46 @@ half-pow side (suc m) s d =
 pub halves : (block side half : ℕ) → half + half ≡ side → ((2 * block) * half ≡ block * side) × ((2 * block + 1) * half ≡ block * side + half)
 halves block side half e = (rw (← e) (omega arith), rw (← e) (omega arith))
 
--- a range that is not the whole of its block stands above the lowest level
-pub above-lowest : (n block side level first last end : ℕ) → side ≡ 2 ^ level → block * side ≤ first → first ≤ last → last < block * side + side → last < n → end ≡ min (block * side + side) n
-    → (first ≡ block * side → last + 1 ≡ end → ⊥) → level ≢ 0
-above-lowest n block side zero first last end s h k l m e none = absurd (none (omega (arith, s)) (omega (arith, s)))
-above-lowest n block side (suc level) first last end s h k l m e none = λ f. absurd (omega (arith, f))
+-- a block of four ticks or more stands above the levels that are left out
+pub above-lowest : (side level : ℕ) → side ≡ 2 ^ level → 4 ≤ side → 2 ≤ level
+above-lowest side zero s h = absurd (omega (arith, s, h))
+above-lowest side (suc zero) s h = absurd (omega (arith, s, h))
+above-lowest side (suc (suc level)) s h = omega arith
 
--- the lowest level alone
-pub levels-first : (xs ticks : List Span) (levels : List (Vec Bounds Global)) (row : Vec Bounds Global) → levels ≡ row ∷ [] → row.items ≡ map bounds_of ticks → ticks ≡ xs → AreLevels xs (levels_of levels)
-levels-first xs ticks levels row e f g = rw e (record {
+-- the lowest level that is kept, above two that are left out
+pub levels-first : (xs ticks : List Span) (levels : List (Vec Bounds Global)) (one two row : Vec Bounds Global) → levels ≡ one ∷ two ∷ row ∷ [] → IsLevel ticks 4 row.items → ticks ≡ xs → AreLevels xs (levels_of levels)
+levels-first xs ticks levels one two row e f g = rw e (record {
   some = omega arith;
-  each = λ k h. at k h;
+  each = λ k deep h. at k deep h;
 })
   where
-    made : IsLevel xs 1 row.items
-    made = subst (IsLevel xs 1) (sym (f ∙ ap (map bounds_of) g)) (level-leaves xs)
+    made : IsLevel xs 4 row.items
+    made = subst (λ (ys : List Span). IsLevel ys 4 row.items) g f
 
-    at : (k : ℕ) → k < 1 → IsLevel xs (2 ^ k) (level_at (row.items ∷ []) k)
-    at zero h = made
-    at (suc k) h = absurd (omega (arith, h))
+    at : (k : ℕ) → 2 ≤ k → k < 3 → IsLevel xs (2 ^ k) (level_at (one.items ∷ two.items ∷ row.items ∷ []) k)
+    at zero deep h = absurd (omega (arith, deep))
+    at (suc zero) deep h = absurd (omega (arith, deep))
+    at (suc (suc zero)) deep h = made
+    at (suc (suc (suc k))) deep h = absurd (omega (arith, h))
+
+-- three that were put at the end of none
+pub three-pushed : {X : Type 0} (none one two three : List X) (a b c : X) → none ≡ [] → one ≡ none ++ a ∷ [] → two ≡ one ++ b ∷ [] → three ≡ two ++ c ∷ [] → three ≡ a ∷ b ∷ c ∷ []
+three-pushed none one two three a b c z e f g = rw (g, f, e, z) refl
+
+-- a level that is kept, by its place
+pub level-of : (xs : List Span) (levels : List (Vec Bounds Global)) (level side : ℕ) (row : Vec Bounds Global) → AreLevels xs (levels_of levels) → 2 ≤ level → level < length levels → side ≡ 2 ^ level → row ≡ get_or levels level row
+    → IsLevel xs side row.items
+level-of xs levels level side row has deep l s is =
+    let there : level_at (levels_of levels) level ≡ row.items = get_or-map vec_items levels level row [] l ∙ ap vec_items (sym is) in
+    let kept : IsLevel xs (2 ^ level) row.items = subst (IsLevel xs (2 ^ level)) there (has.each level deep (omega (arith, l, levels-length levels))) in
+    subst (λ (n : ℕ). IsLevel xs n row.items) (sym s) kept
+
+-- a block that is a whole range
+pub whole-block : (xs : List Span) (side block first last : ℕ) (row : List Bounds) (hull : Bounds) → IsLevel xs side row → block * side < length xs → first ≡ block * side → last + 1 ≡ min (block * side + side) (length xs)
+    → hull ≡ get_or row block hull → hull ≡ bounds_over xs first (last - first)
+whole-block xs side block first last row hull level h f l is =
+    let n : min (block * side + side) (length xs) - 1 - block * side ≡ last - first = omega (arith, f, l) in
+    is ∙ level.hulls block hull h ∙ ap (bounds_over xs (block * side)) n ∙ ap (λ (a : ℕ). bounds_over xs a (last - first)) (sym f)
 
 -- what holds of each tick and of one more
 pub each-more : (P : Span → Type 0) (xs : List Span) (x : Span) → ((k : ℕ) → P (cell_at xs k)) → P x → P (point (pos 0)) → (k : ℕ) → P (cell_at (xs ++ x ∷ []) k)

@@ -24,10 +24,10 @@ levels_of levels = map vec_items levels
 abbrev pub level_at : List (List Bounds) → ℕ → List Bounds
 level_at levels k = slice_index_or levels k []
 
--- the levels from side 1 on, as far as they go
+-- the levels as far as they go, of which the two lowest are left out
 pub record AreLevels (xs : List Span) (levels : List (List Bounds)) : Type 0 where
-  pub some : 1 ≤ length levels
-  pub each : (k : ℕ) → k < length levels → IsLevel xs (2 ^ k) (level_at levels k)
+  pub some : 3 ≤ length levels
+  pub each : (k : ℕ) → 2 ≤ k → k < length levels → IsLevel xs (2 ^ k) (level_at levels k)
 
 -- what holds of every tree over the intervals of ticks: the last level has one block
 pub record IsTree (xs : List Span) (rows : List (List Bounds)) : Type 0 where

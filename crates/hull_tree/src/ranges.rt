@@ -12,8 +12,8 @@ use int_interval::Interval;
 use std::alloc::{AllocError, Global};
 use std::marker::Model;
 
-/// A tree over the ticks of one signal. Level `k` has a hull for each block of `2 ^ k` ticks, and the last level one for all ticks.
-/// A contract sees the intervals of the ticks.
+/// A tree over the ticks of one signal. Level `k` has a hull for each block of `2 ^ k` ticks, and the last level one for all ticks; the two
+/// lowest levels are empty, since the hulls of so few ticks are made when they are asked for. A contract sees the intervals of the ticks.
 #[derive(Drop)]
 pub struct RangeTree {
     ticks: Vec<Interval>,
@@ -42,8 +42,10 @@ impl RangeTree {
         ensures { IfOk result (λ tree. tree ≡ ticks.items) }
     {
         let mut levels = Vec::new(alloc);
-        levels.push(leaves(alloc, &ticks)?)?;
-        let mut side = 1;
+        levels.push(Vec::new(alloc))?;
+        levels.push(Vec::new(alloc))?;
+        levels.push(fours(alloc, &ticks)?)?;
+        let mut side = 4;
         while side < ticks.len() {
             let above = halved(alloc, &levels[levels.len() - 1])?;
             levels.push(above)?;
@@ -102,7 +104,8 @@ fn lowest_block(first: u32, last: u32) -> (usize, usize, usize)
     (level, low, side)
 }
 
-/// The bounds over a range within a block: the block's own where the range is all of it, and else those of its two halves.
+/// The bounds over a range within a block: the block's own where the range is all of it, and else those of its two halves, or of the ticks
+/// where the block has no more than two.
 fn over(
     ticks: &[Interval],
     levels: &[Vec<Bounds>],
@@ -123,6 +126,9 @@ fn over(
     requires within { last < length ticks.now }
     ensures { result ≡ bounds_over ticks.now first (last - first) }
 {
+    if side < 4 {
+        return ticks_over(ticks, first, last);
+    }
     let start = block * side;
     let end = (start + side).min(ticks.len());
     if first == start && last + 1 == end {
@@ -141,19 +147,41 @@ fn over(
     join(lower, upper)
 }
 
-/// The lowest level: a hull for each tick.
-fn leaves(alloc: Global, ticks: &[Interval]) -> Result<Vec<Bounds>, AllocError>
-    ensures { IfOk result (λ v. v.items ≡ map bounds_of ticks.now) }
+/// The bounds over the ticks from the first to the last, tick by tick.
+fn ticks_over(ticks: &[Interval], first: usize, last: usize) -> Bounds
+    requires order { first ≤ last }
+    requires within { last < length ticks.now }
+    requires short { length ticks.now ≤ most_ticks + 1 }
+    ensures { result ≡ bounds_over ticks.now first (last - first) }
 {
-    ticks.iter().map(|tick| hull_of(*tick)).collect(alloc)
+    let mut bounds = hull_of(ticks[first]);
+    for tick in first + 1..last + 1 {
+        bounds = join(bounds, hull_of(ticks[tick]));
+    }
+    bounds
+}
+
+/// The lowest level that is kept: a hull for each four ticks.
+fn fours(alloc: Global, ticks: &[Interval]) -> Result<Vec<Bounds>, AllocError>
+    requires short { length ticks.now ≤ most_ticks + 1 }
+    ensures { IfOk result (λ v. IsLevel ticks.now 4 v.items) }
+{
+    let blocks = ticks.len().div_ceil(4);
+    let mut row = Vec::with_capacity(alloc, blocks)?;
+    for i in 0..blocks {
+        let end = (4 * i + 4).min(ticks.len());
+        row.push(ticks_over(ticks, 4 * i, end - 1))?;
+    }
+    Ok(row)
 }
 
 /// A level from the one below.
 fn halved(alloc: Global, row: &[Bounds]) -> Result<Vec<Bounds>, AllocError>
     ensures { IfOk result (λ v. IsHalved row.now v.items) }
 {
-    let mut above = Vec::new(alloc);
-    for i in 0..row.len().div_ceil(2) {
+    let blocks = row.len().div_ceil(2);
+    let mut above = Vec::with_capacity(alloc, blocks)?;
+    for i in 0..blocks {
         above.push(pair_at(row, i))?;
     }
     Ok(above)

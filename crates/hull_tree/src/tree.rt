@@ -138,7 +138,8 @@ fn range_tree(alloc: Global, store: &Store, signal: SignalId) -> Result<RangeTre
     ensures short { last_tick store.now.shape.grid ≤ most_ticks }
 {
     store.grid().known();
-    let mut ticks: Vec<Interval> = Vec::new(alloc);
+    let count = store.grid().ticks() as usize + 1;
+    let mut ticks: Vec<Interval> = Vec::with_capacity(alloc, count)?;
     for tick in 0..store.grid().ticks() + 1 {
         ticks.push(store.at_tick(signal, tick))?;
     }

@@ -1,4 +1,4 @@
-use Rattle.std.proofs.Common.{◌≡◌, ◌*◌, ◌-◌, ◌^◌, ◌<◌, length}
+use Rattle.std.proofs.Common.{◌≡◌, ◌+◌, ◌*◌, ◌-◌, ◌^◌, ◌≤◌, length}
 use Rattle.hull_tree.specs.Levels.{AreLevels, levels_of}
 use Rattle.hull_tree.proofs.ranges.RangeTree.new.Given as goal
 
@@ -7,7 +7,7 @@ abbrev pub invariant-loop-side : goal.invariant-loop-side
 invariant-loop-side l = record {
   levels : AreLevels l.ticks.items (levels_of l.levels.items);
   side : l.side ≡ 2 ^ (length l.levels.items - 1);
-  low : l.side < 2 * length l.ticks.items;
+  low : l.side ≤ 2 * length l.ticks.items + 2;
 }
 
 abbrev pub decreases-loop-side : goal.decreases-loop-side

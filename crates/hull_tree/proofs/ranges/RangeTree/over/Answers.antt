@@ -11,7 +11,7 @@ over-requires-clause-level c =
     let tree = c.self.invariant in
     let rows = levels_of c.self.inside.levels.items in
     let below : c.lowest_block-level.result.0 < length rows = level-below c.lowest_block-level.result.0 (length rows) c.lowest_block-level.result.2 c.args.last (length c.self.inside.ticks.items)
-    c.lowest_block-level.ensures.side c.lowest_block-level.ensures.low (subst (λ (xs : List Span). c.args.last < length xs) (sym c.self.view_is) c.requires.within) tree.wide tree.levels.some in
+    c.lowest_block-level.ensures.side c.lowest_block-level.ensures.low (subst (λ (xs : List Span). c.args.last < length xs) (sym c.self.view_is) c.requires.within) tree.wide (omega (arith, tree.levels.some)) in
     omega (arith, below, levels-length c.self.inside.levels.items, c.deref-2.ensures.len)
 
 pub returns-clause-small : goal.returns-clause-small
