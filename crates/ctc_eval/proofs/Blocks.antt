@@ -2,15 +2,15 @@
 use Rattle.slice_gates.specs.Near.{first_of, gates_of, near_of}
 use Rattle.ctc_eval.specs.Held.{IsFound}
 use Rattle.slice_gates.specs.declared.near.Near.{Near}
-use Rattle.ctc_eval.specs.Clock.{cells_of}
+use Rattle.tube_spec.specs.Grid.{last_tick}
+use Rattle.ctc_eval.specs.Clock.{cells_of, only_in}
 use Rattle.std.specs.List.{range_with_len}
-use Rattle.std.proofs.Common.{replicate, ◌≡◌, ℕ, zero, suc, refl, ◌+◌, ◌<◌, ◌≤◌, ◌⊎◌, inl, inr, Option, Some, None, IfSome, List, arith, sym, subst, length, slice_index_or, All, map, ap, ◌∙◌, ◌∷◌, ◌++◌, ◌-◌}
+use Rattle.std.proofs.Common.{replicate, ◌≡◌, ℕ, zero, suc, refl, ◌+◌, ◌<◌, ◌≤◌, ◌⊎◌, inl, inr, Option, Some, None, IfSome, List, arith, sym, subst, length, slice_index_or, map, ap, ◌∙◌, ◌∷◌, ◌++◌, ◌-◌}
 use Rattle.tube_spec.specs.Span.{Span}
-use Rattle.tube_spec.specs.Narrowing.{Narrowing, IsUnder, narrowing_of}
+use Rattle.tube_spec.specs.Narrowing.{narrowing_of}
 use Rattle.tube_spec.specs.Shape.{Shape, gate_cell}
 use Rattle.tube_spec.specs.Hull.{IsWithinOption}
-use Rattle.tube_spec.specs.Box.{IsBox, cell_at}
-use Rattle.tube_spec.specs.Projection.{Projection, IsMonotone}
+use Rattle.tube_spec.specs.Projection.{Projection}
 use Rattle.ctc_core.specs.Given.{projection_at, no_projection}
 use Rattle.ctc_core.proofs.Fixing.{Fixes}
 use Rattle.std.proofs.lemmas.List.{map-append, append-nil}
@@ -18,20 +18,23 @@ use Rattle.std.proofs.lemmas.List.FromFn.{length-map-range_with_len, get_or-map-
 use Rattle.slice_gates.specs.declared.clock.Ticks.{Ticks}
 use Rattle.ctc_eval.specs.declared.block.Block.{Block}
 use Rattle.ctc_eval.specs.Blocks.{kept_projection, block_projections}
-use Rattle.ctc_eval.specs.Evals.{reached_from, value_projection, time_projection, gate_projection, reached_projection, eval_projections}
-use Rattle.ctc_eval.specs.Walks.{IsFromBefore, IsFromAfter}
-use Rattle.ctc_eval.proofs.Hulls.{only-outside}
+use Rattle.ctc_eval.specs.Evals.{shared_at, reached_from, value_projection, time_projection, gate_projection, reached_projection, eval_projections}
+use Rattle.ctc_eval.specs.Walks.{IsFromBefore, IsFromOn}
+use Rattle.ctc_eval.proofs.Hulls.{hull-first, only-outside}
+use Rattle.ctc_eval.proofs.Stretches.{shared-here}
 
--- ---- no tick of the time lies before a tick, or after it
+-- ---- no tick of the time lies after a tick, or before it
 
 nothing-at : (o t : Option Span) → o ≡ None → IsWithinOption o t
 nothing-at o t e = subst (λ (p : Option Span). IsWithinOption p t) (sym e) tt
 
-pub nothing-after : (s : Shape) (x v z : ℕ) (xs : List Span) (ticks : Ticks) (tick : ℕ) → ticks.last ≤ tick → IsFromAfter s x v z xs ticks tick None
-nothing-after s x v z xs ticks tick h = record {
-  holds = λ k p q. nothing-at _ None (only-outside ticks (reached_from s x v z tick xs) k (inr (omega (arith, p, h))));
-  least = λ t all. tt;
-}
+pub only-there : (s : Shape) (x v z : ℕ) (xs : List Span) (ticks : Ticks) (tick : ℕ) (here : Option Span) → tick ≤ last_tick s.grid → ticks.last ≤ tick → here ≡ only_in ticks (shared_at s x z xs) tick → IsFromOn s x v z xs ticks tick here
+only-there s x v z xs ticks tick here l h e =
+    subst (IsFromOn s x v z xs ticks tick) (sym (e ∙ shared-here s x v z xs ticks tick))
+    (hull-first (only_in ticks (reached_from s x v z tick xs)) tick (last_tick s.grid + 1) None (omega (arith, l)) (record {
+      holds = λ k p q. nothing-at _ None (only-outside ticks (reached_from s x v z tick xs) k (inr (omega (arith, p, h))));
+      least = λ t all. tt;
+    }))
 
 pub nothing-before : (s : Shape) (x v z : ℕ) (xs : List Span) (ticks : Ticks) (tick : ℕ) → tick ≤ ticks.first → IsFromBefore s x v z xs ticks tick None
 nothing-before s x v z xs ticks tick h = record {

@@ -1,20 +1,21 @@
 -- What ticks give at one tick, carried to the next one and to the one before.
-use Rattle.std.proofs.Common.{◌≡◌, ℕ, suc, ◌+◌, ◌-◌, ◌<◌, ◌≤◌, ◌⊎◌, inl, inr, Bool, true, false, cond, leb, ◌&&◌, Option, Some, None, IfSome, List, pos, neg_ℤ, ◌-ℤ◌, arith, refl, sym, ap, subst, ◌∙◌}
+use Rattle.std.proofs.Common.{◌≡◌, ℕ, suc, ◌+◌, ◌-◌, ◌<◌, ◌≤◌, ◌⊎◌, inl, inr, Bool, true, false, cond, leb, ◌&&◌, Option, Some, None, IfSome, IsSome, List, pos, neg_ℤ, ◌-ℤ◌, arith, refl, sym, ap, subst, ◌∙◌}
 use Rattle.std.specs.Option.{option_map}
 use Rattle.std.proofs.lemmas.Int.{ints}
 use Rattle.tube_spec.specs.Span.{Span, IsBounded, add_of}
 use Rattle.tube_spec.specs.Hull.{join_option, IsWithinOption}
 use Rattle.tube_spec.specs.Shape.{Shape}
-use Rattle.tube_spec.specs.Tick.{at_tick}
+use Rattle.tube_spec.specs.Box.{AreBounded}
+use Rattle.tube_spec.specs.Tick.{at_tick, tick_cell}
 use Rattle.tube_spec.proofs.Spans.{same_span}
 use Rattle.int_interval.specs.Image.{neg_of}
 use Rattle.slice_gates.specs.declared.clock.Ticks.{Ticks}
-use Rattle.ctc_eval.specs.Clock.{only_in, IsHullOver}
+use Rattle.ctc_eval.specs.Clock.{only_in, IsHullOver, cells_of}
 use Rattle.ctc_eval.specs.Gains.{sum_over, gain}
 use Rattle.ctc_eval.specs.GainLaws.{gain-on, gain-back, gain-here, gain-bounded, sum-first}
 use Rattle.ctc_eval.specs.Evals.{variable_at, shared_at, reached_from}
 use Rattle.ctc_eval.specs.Walks.{later_by}
-use Rattle.ctc_eval.proofs.Hulls.{hull-last, hull-first, hull-given, meet-bounded}
+use Rattle.ctc_eval.proofs.Hulls.{hull-last, hull-given, meet-bounded, cells-there}
 
 -- ---- a span added to each member of a hull
 
@@ -58,7 +59,7 @@ gain-later f k g h =
     let there : k + (g - k) ≡ g = omega (arith, h) in
     gain-on f k (g + 1) (omega (arith, h)) ∙ ap (sum_over f k) e ∙ ap (λ (i : ℕ). add_of (sum_over f k (g - k)) (f i)) there ∙ ap (λ (s : Span). add_of s (f g)) (sym (gain-on f k g h))
 
-back-or-here : (f : ℕ → Span) (k g : ℕ) → g ≤ k → gain f k g ≡ neg_of (sum_over f g (k - g))
+pub back-or-here : (f : ℕ → Span) (k g : ℕ) → g ≤ k → gain f k g ≡ neg_of (sum_over f g (k - g))
 back-or-here f k g h = elim (before-or-same k g h) [
   | inl lt ↦ gain-back f k g lt
   | inr same ↦ let none : k - g ≡ 0 = omega (arith, same) in
@@ -83,7 +84,7 @@ neg-small r n e b = subst (IsBounded 500000000) (sym e) (record { low = omega (a
 
 -- ---- what the signal may come to
 
-step-same : (b : Bool) (o : Option Span) (g h r : Span) → h ≡ add_of g r → later_by r (cond b (option_map (λ both. add_of both g) o) None) ≡ cond b (option_map (λ both. add_of both h) o) None
+pub step-same : (b : Bool) (o : Option Span) (g h r : Span) → h ≡ add_of g r → later_by r (cond b (option_map (λ both. add_of both g) o) None) ≡ cond b (option_map (λ both. add_of both h) o) None
 step-same false o g h r e = refl
 step-same true None g h r e = refl
 step-same true (Some a) g h r e = ap Some (same_span (add_of (add_of a g) r) (add_of a (add_of g r)) (omega (arith, ints)) (omega (arith, ints)) ∙ ap (add_of a) (sym e))
@@ -110,17 +111,6 @@ module _ (s : Shape) (x v z : ℕ) (xs : List Span) (ticks : Ticks) where
       whole-on : IsHullOver (reached g) 0 g h → IsHullOver (reached g) 0 (g + 1) whole
       whole-on is = subst (IsHullOver (reached g) 0 (g + 1)) (sym (ew ∙ ap (join_option h) eh)) (hull-last (reached g) 0 g h (omega arith) is)
 
-  -- one tick back, from the tick after p: that tick itself joins, and then the rate at p is taken off
-  pub carry-back : (p n : ℕ) → p + 1 < n → (h here whole new : Option Span) (rate : Span) → here ≡ reached (p + 1) (p + 1) → whole ≡ join_option h here → rate ≡ neg_of (at_tick s xs v p) → new ≡ later_by rate whole
-      → IsHullOver (reached (p + 1)) (p + 1 + 1) n h → IsHullOver (reached p) (p + 1) n new
-  carry-back p n lt h here whole new rate eh ew er en is =
-      hull-given (λ k. later_by (neg_of (at_tick s xs v p)) (reached (p + 1) k)) (reached p) (p + 1) n new
-      (λ k l q. step-same (leb ticks.first k && leb k ticks.last) (shared_at s x z xs k) (gain (at_tick s xs v) k (p + 1)) (gain (at_tick s xs v) k p) (neg_of (at_tick s xs v p)) (gain-earlier (at_tick s xs v) k p l))
-      (subst (IsHullOver (λ k. later_by (neg_of (at_tick s xs v p)) (reached (p + 1) k)) (p + 1) n) (sym (en ∙ ap (λ (r : Span). later_by r whole) er)) (hull-later (reached (p + 1)) (neg_of (at_tick s xs v p)) (p + 1) n whole (whole-back is)))
-    where
-      whole-back : IsHullOver (reached (p + 1)) (p + 1 + 1) n h → IsHullOver (reached (p + 1)) (p + 1) n whole
-      whole-back is = subst (IsHullOver (reached (p + 1)) (p + 1) n) (sym (ew ∙ ap (join_option h) eh)) (hull-first (reached (p + 1)) (p + 1) n h lt is)
-
   -- a hull over ticks of the clock is bounded
   module _ (rates : (i : ℕ) → IsBounded 500000000 (at_tick s xs v i)) (value : IsBounded 500000000 (variable_at s xs z)) where
     reached-small : (g k : ℕ) → g ≤ 100000 → k ≤ 100000 → IsWithinOption (reached g k) (Some large)
@@ -137,11 +127,11 @@ module _ (s : Shape) (x v z : ℕ) (xs : List Span) (ticks : Ticks) where
     pub hull-small : (g a b : ℕ) (h : Option Span) → g ≤ 100000 → b ≤ 100001 → IsHullOver (reached g) a b h → IfSome h (IsBounded 60000000000000)
     hull-small g a b h p q is = small-of h (is.least (Some large) (λ k l m. reached-small g k p (omega (arith, q, m))))
 
-    -- with the tick itself, before and after
+    -- with the tick itself
     pub on-small : (g : ℕ) (h here whole : Option Span) → g ≤ 100000 → here ≡ reached g g → whole ≡ join_option h here → IsHullOver (reached g) 0 g h → IfSome whole (IsBounded 60000000000000)
     on-small g h here whole p eh ew is =
         hull-small g 0 (g + 1) whole p (omega (arith, p)) (subst (IsHullOver (reached g) 0 (g + 1)) (sym (ew ∙ ap (join_option h) eh)) (hull-last (reached g) 0 g h (omega arith) is))
 
-    pub back-small : (g n : ℕ) (h here whole : Option Span) → g ≤ 100000 → g < n → n ≤ 100001 → here ≡ reached g g → whole ≡ join_option h here → IsHullOver (reached g) (g + 1) n h → IfSome whole (IsBounded 60000000000000)
-    back-small g n h here whole p lt q eh ew is =
-        hull-small g g n whole p q (subst (IsHullOver (reached g) g n) (sym (ew ∙ ap (join_option h) eh)) (hull-first (reached g) g n h lt is))
+-- the rates of a box are bounded
+pub rates-bounded : (s : Shape) (box : Option (List Span)) (v : ℕ) → IsSome box → IfSome box AreBounded → (i : ℕ) → IsBounded 500000000 (at_tick s (cells_of box) v i)
+rates-bounded s box v some b i = cells-there AreBounded box some b (tick_cell s v i)

@@ -1,8 +1,9 @@
 pub mod Hulls
 pub mod Places
-pub mod Walking
-pub mod Sweeping
 pub mod Carrying
+pub mod Products
+pub mod Stretches
+pub mod Covering
 pub mod Blocks
 pub mod Stable
 mod Examples

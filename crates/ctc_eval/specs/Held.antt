@@ -24,12 +24,12 @@ projection_of s x t z declared Time = time_projection s x t z declared
 projection_of s x t z declared (Gate gate) = gate_projection s x t z declared gate
 projection_of s x t z declared (Reached rate gate) = reached_projection s x rate.0 t z declared gate
 
--- it names a gate, and a rate, of the shape
-abbrev pub IsOfShape : Shape → Held → Type 0
-IsOfShape s Value = Unit {0}
-IsOfShape s Time = Unit {0}
-IsOfShape s (Gate gate) = gate < length s.grid
-IsOfShape s (Reached rate gate) = (gate < length s.grid) × (rate.0 < length s.signals)
+-- it names a gate, and a rate, of the shape, and a gate that it holds by the rate is one of these slices
+abbrev pub IsOfShape : Shape → Option Near → Held → Type 0
+IsOfShape s near Value = Unit {0}
+IsOfShape s near Time = Unit {0}
+IsOfShape s near (Gate gate) = gate < length s.grid
+IsOfShape s near (Reached rate gate) = (gate < length s.grid) × IfSome near (λ n. (n.first ≤ gate) × (gate + 1 ≤ n.last + 2)) × (rate.0 < length s.signals)
 
 -- these are the slices that share a tick with the range, in order and of a grid
 pub record IsFound (grid : List ℕ) (range : Span) (near : Option Near) : Type 0 where

@@ -1,17 +1,16 @@
 //! What the signal may come to at each gate of a block, and a block as projections.
 
 ghost use Rattle.std.specs.Prelude.{◌≡◌, ◌+◌, ◌<◌, ◌≤◌, ℕ, IsSome, None, length, slice_index, slice_index_or};
-ghost use Rattle.tube_spec.specs.Grid.{last_tick};
 ghost use Rattle.tube_spec.specs.Narrowing.{narrowing_of};
 ghost use Rattle.ctc_core.specs.Given.{narrowing_given};
 ghost use Rattle.ctc_eval.specs.Clock.{cells_of};
 ghost use Rattle.ctc_eval.specs.Blocks.{IsFromAll};
-ghost use Rattle.ctc_eval.specs.Walks.{IsFromAfter};
+ghost use Rattle.ctc_eval.specs.Walks.{Covers, IsFromOn};
 
+use super::clock::{Stretch, join};
 use super::sweep::Sweep;
 use ctc_core::{Formulas, Given};
 use int_interval::Interval;
-use slice_gates::Ticks;
 use tube_store::{CellId, SignalId, Store};
 
 /// A hull as what a formula gives.
@@ -65,34 +64,40 @@ impl Formulas for Block {
     }
 }
 
-// What the ticks after each gate of a block give at it, from the last gate back. The last entry is nothing.
-fn hulls_after(
+// What the ticks from each gate of a block on give at it, from the end of the stretch back.
+fn hulls_back(
     sweep: &Sweep,
     store: &Store,
     rate: SignalId,
-    ticks: Ticks,
+    stretch: Stretch,
     first: u32,
     count: u32,
 ) -> [Option<Interval>; 17]
     requires signal { sweep.now.x.0 < length store.now.shape.signals }
     requires rate { rate.0 < length store.now.shape.signals }
     requires value { sweep.now.z.0 < length store.now.shape.vars }
-    requires clock { ticks.last ≤ last_tick store.now.shape.grid }
+    requires covers { Covers store.now.shape.grid stretch.ticks stretch.near }
     requires some { 0 < count }
     requires few { count ≤ 16 }
-    requires gates { first + count ≤ length store.now.shape.grid }
+    requires gates { first + count ≤ stretch.near.last + 2 }
     requires filled { IsSome store.now.box }
     ensures room { length result ≡ 17 }
-    ensures spare { slice_index_or result 16 None ≡ None }
-    ensures after { (k : ℕ) → k < count → IsFromAfter store.now.shape sweep.now.x.0 rate.0 sweep.now.z.0 (cells_of store.now.box) ticks (slice_index store.now.shape.grid (first + k)) (slice_index_or result k None) }
+    ensures back { (k : ℕ) → k < count → IsFromOn store.now.shape sweep.now.x.0 rate.0 sweep.now.z.0 (cells_of store.now.box) stretch.ticks (slice_index store.now.shape.grid (first + k)) (slice_index_or result k None) }
 {
     store.known();
     let mut hulls: [Option<Interval>; 17] = [None; 17];
-    let mut at = ticks.last.max(store.grid().boundary(first + (count - 1)));
+    let mut at = stretch.near.last + 1;
+    hulls[count as usize] = sweep.shared_in(store, stretch.ticks, at);
     for j in (0..count).rev() {
-        let tick = store.grid().boundary(first + j);
-        hulls[j as usize] = sweep.carried_back(store, rate, ticks, at, tick, hulls[j as usize + 1]);
-        at = tick;
+        hulls[j as usize] = sweep.carried_back(
+            store,
+            rate,
+            stretch.ticks,
+            at,
+            first + j,
+            hulls[j as usize + 1],
+        );
+        at = first + j;
     }
     hulls
 }
@@ -103,29 +108,30 @@ pub fn hulls_whole(
     sweep: &Sweep,
     store: &Store,
     rate: SignalId,
-    ticks: Ticks,
+    stretch: Stretch,
     first: u32,
     count: u32,
 ) -> [Option<Interval>; 17]
     requires signal { sweep.now.x.0 < length store.now.shape.signals }
     requires rate { rate.0 < length store.now.shape.signals }
     requires value { sweep.now.z.0 < length store.now.shape.vars }
-    requires clock { ticks.last ≤ last_tick store.now.shape.grid }
+    requires covers { Covers store.now.shape.grid stretch.ticks stretch.near }
     requires some { 0 < count }
     requires few { count ≤ 16 }
-    requires gates { first + count ≤ length store.now.shape.grid }
+    requires start { stretch.near.first ≤ first }
+    requires gates { first + count ≤ stretch.near.last + 2 }
     requires filled { IsSome store.now.box }
     ensures room { length result ≡ 17 }
-    ensures whole { (k : ℕ) → k < count → IsFromAll store.now.shape sweep.now.x.0 rate.0 sweep.now.z.0 (cells_of store.now.box) ticks (first + k) (slice_index_or result k None) }
+    ensures whole { (k : ℕ) → k < count → IsFromAll store.now.shape sweep.now.x.0 rate.0 sweep.now.z.0 (cells_of store.now.box) stretch.ticks (first + k) (slice_index_or result k None) }
 {
     store.known();
-    let mut hulls = hulls_after(sweep, store, rate, ticks, first, count);
-    let mut at = ticks.first.min(store.grid().boundary(first));
+    let mut hulls = hulls_back(sweep, store, rate, stretch, first, count);
+    let mut at = stretch.near.first;
+    hulls[16] = None;
     for j in 0..count {
-        let tick = store.grid().boundary(first + j);
-        hulls[16] = sweep.carried_on(store, rate, ticks, at, tick, hulls[16]);
-        hulls[j as usize] = sweep.come_to(store, ticks, tick, hulls[16], hulls[j as usize]);
-        at = tick;
+        hulls[16] = sweep.carried_on(store, rate, stretch.ticks, at, first + j, hulls[16]);
+        hulls[j as usize] = join(hulls[16], hulls[j as usize]);
+        at = first + j;
     }
     hulls
 }

@@ -11,9 +11,12 @@ ghost use Rattle.ctc_eval.specs.Clock.{cells_of};
 ghost use Rattle.slice_gates.specs.Clock.{ticks_of};
 ghost use Rattle.slice_gates.specs.Near.{near_of, gates_of, places_of};
 ghost use Rattle.ctc_eval.specs.Evals.{EvalFits, cells_near, eval_projections, time_of, value_hull, time_hull, gate_narrowing, reached_hull, reached_projection};
+ghost use Rattle.std.specs.Option.{option_map};
+ghost use Rattle.ctc_eval.specs.Walks.{Covers};
 ghost use Rattle.ctc_eval.specs.Held.{IsFound, IsOfShape, PlacedFits, projection_of, rate_of};
 
 use super::block::{Block, given_of, hulls_whole};
+use super::clock::Stretch;
 use super::near::{first, gates, places};
 use super::readings::variable;
 use super::sweep::Sweep;
@@ -96,6 +99,21 @@ impl EvalCtc {
         ticks_in(store.grid(), time)
     }
 
+    // The ticks that the time may be at, and the slices near its declared range, which have them all.
+    fn stretch(&self, store: &Store, near: Option<Near>) -> Option<Stretch>
+        requires time { self.now.t.0 < length store.now.shape.vars }
+        requires found { IsFound store.now.shape.grid self.now.declared near }
+        requires filled { IsSome store.now.box }
+        ensures value { let s = store.now.shape in option_map (λ stretch. stretch.ticks) result ≡ ticks_of s.grid (time_of s self.now.t.0 self.now.declared (cells_of store.now.box)) }
+        ensures near { IfSome result (λ stretch. near ≡ Some stretch.near) }
+        ensures covers { IfSome result (λ stretch. Covers store.now.shape.grid stretch.ticks stretch.near) }
+    {
+        store.known();
+        let near = near?;
+        let ticks = self.ticks(store)?;
+        Some(Stretch { ticks, near })
+    }
+
     // The signal and the value.
     fn sweep(&self) -> Sweep
         ensures { result ≡ record { x = self.now.x; z = self.now.z } }
@@ -124,7 +142,7 @@ impl EvalCtc {
         requires fits { EvalFits store.now.shape self.now.x.0 (rate_of self.now.rate) self.now.t.0 self.now.z.0 }
         requires below { let c = self.now in i < length (eval_projections store.now.shape c.x.0 (rate_of c.rate) c.t.0 c.z.0 c.declared) }
         ensures projection { let c = self.now in projection_at (eval_projections store.now.shape c.x.0 (rate_of c.rate) c.t.0 c.z.0 c.declared) i ≡ projection_of store.now.shape c.x.0 c.t.0 c.z.0 c.declared result }
-        ensures named { IsOfShape store.now.shape result }
+        ensures named { IsOfShape store.now.shape near result }
     {
         if i == 0 {
             return Held::Value;
@@ -159,13 +177,14 @@ impl EvalCtc {
     }
 
     // What the formula of the time gives.
-    fn time_given(&self, store: &Store) -> Given
+    fn time_given(&self, store: &Store, near: Option<Near>) -> Given
+        requires found { IsFound store.now.shape.grid self.now.declared near }
         requires fits { EvalFits store.now.shape self.now.x.0 (rate_of self.now.rate) self.now.t.0 self.now.z.0 }
         requires filled { IsSome store.now.box }
         ensures { narrowing_given result ≡ narrowing_of (time_hull store.now.shape self.now.x.0 self.now.t.0 self.now.z.0 self.now.declared (cells_of store.now.box)) }
     {
-        match self.ticks(store) {
-            Some(ticks) => given_of(self.sweep().met(store, ticks)),
+        match self.stretch(store, near) {
+            Some(stretch) => given_of(self.sweep().met(store, stretch)),
             None => Given::Nothing,
         }
     }
@@ -191,27 +210,33 @@ impl EvalCtc {
     }
 
     // What the formula of a gate gives by the rate.
-    fn reached_given(&self, store: &Store, rate: SignalId, gate: u32) -> Given
+    fn reached_given(&self, store: &Store, near: Option<Near>, rate: SignalId, gate: u32) -> Given
+        requires found { IsFound store.now.shape.grid self.now.declared near }
         requires fits { EvalFits store.now.shape self.now.x.0 (rate_of self.now.rate) self.now.t.0 self.now.z.0 }
         requires rate { rate.0 < length store.now.shape.signals }
-        requires gate { gate < length store.now.shape.grid }
+        requires gate { IfSome near (λ near. (near.first ≤ gate) × (gate + 1 ≤ near.last + 2)) }
         requires filled { IsSome store.now.box }
         ensures { narrowing_given result ≡ narrowing_of (reached_hull store.now.shape self.now.x.0 rate.0 self.now.t.0 self.now.z.0 self.now.declared gate (cells_of store.now.box)) }
     {
-        let tick = store.grid().boundary(gate);
-        match self.ticks(store) {
-            Some(ticks) => given_of(self.sweep().reached(store, rate, ticks, tick)),
-            None => Given::Nothing,
-        }
+        let hulls = self.hulls(store, near, rate, gate, 1);
+        given_of(hulls[0])
     }
 
     // What the formulas of some gates give by the rate, at most sixteen one after another.
-    fn hulls(&self, store: &Store, rate: SignalId, first: u32, count: u32) -> [Option<Interval>; 17]
+    fn hulls(
+        &self,
+        store: &Store,
+        near: Option<Near>,
+        rate: SignalId,
+        first: u32,
+        count: u32,
+    ) -> [Option<Interval>; 17]
+        requires found { IsFound store.now.shape.grid self.now.declared near }
         requires fits { EvalFits store.now.shape self.now.x.0 (rate_of self.now.rate) self.now.t.0 self.now.z.0 }
         requires rate { rate.0 < length store.now.shape.signals }
         requires some { 0 < count }
         requires few { count ≤ 16 }
-        requires gates { first + count ≤ length store.now.shape.grid }
+        requires gates { IfSome near (λ near. (near.first ≤ first) × (first + count ≤ near.last + 2)) }
         requires filled { IsSome store.now.box }
         ensures room { length result ≡ 17 }
         ensures value { (k : ℕ) → k < count → slice_index_or result k None ≡ reached_hull store.now.shape self.now.x.0 rate.0 self.now.t.0 self.now.z.0 self.now.declared (first + k) (cells_of store.now.box) }
@@ -220,26 +245,35 @@ impl EvalCtc {
             x: self.x,
             z: self.z,
         };
-        match self.ticks(store) {
-            Some(ticks) => hulls_whole(&sweep, store, rate, ticks, first, count),
+        match self.stretch(store, near) {
+            Some(stretch) => hulls_whole(&sweep, store, rate, stretch, first, count),
             None => [None; 17],
         }
     }
 
     // Fires the projections of these gates, each by what its formula gives before the first of them is narrowed.
-    fn revise_block(&self, store: &mut Store, rate: SignalId, first: u32, count: u32) -> Revised
+    fn revise_block(
+        &self,
+        store: &mut Store,
+        near: Option<Near>,
+        rate: SignalId,
+        first: u32,
+        count: u32,
+    ) -> Revised
+        requires found { IsFound store.old.shape.grid self.now.declared near }
         requires fits { EvalFits store.old.shape self.now.x.0 (rate_of self.now.rate) self.now.t.0 self.now.z.0 }
         requires rate { rate.0 < length store.old.shape.signals }
         requires some { 0 < count }
         requires few { count ≤ 16 }
-        requires gates { first + count ≤ length store.old.shape.grid }
+        requires gates { IfSome near (λ near. (near.first ≤ first) × (first + count ≤ near.last + 2)) }
+        requires named { first + count ≤ length store.old.shape.grid }
         ensures { Revises (map (reached_projection store.old.shape self.now.x.0 rate.0 self.now.t.0 self.now.z.0 self.now.declared) (range_with_len first count)) store.old store.new result }
     {
         store.known();
         if store.is_empty() {
             return Revised::Empty;
         }
-        let hulls = self.hulls(store, rate, first, count);
+        let hulls = self.hulls(store, near, rate, first, count);
         let block = Block {
             x: self.x,
             first,
@@ -262,7 +296,7 @@ impl EvalCtc {
         let mut done = 0;
         while done < count {
             let here = (count - done).min(16);
-            let next = self.revise_block(store, rate, from + done, here);
+            let next = self.revise_block(store, near, rate, from + done, here);
             answer = answer.then(next);
             done += here;
         }
@@ -270,8 +304,9 @@ impl EvalCtc {
     }
 
     // Fires the projections that it has without a rate, each by what its formula gives at its turn.
-    fn fire_alone(&self, store: &mut Store) -> Revised
-        requires { EvalFits store.old.shape self.now.x.0 (rate_of self.now.rate) self.now.t.0 self.now.z.0 }
+    fn fire_alone(&self, store: &mut Store, near: Option<Near>) -> Revised
+        requires found { IsFound store.old.shape.grid self.now.declared near }
+        requires fits { EvalFits store.old.shape self.now.x.0 (rate_of self.now.rate) self.now.t.0 self.now.z.0 }
         ensures { Revises (eval_projections store.old.shape self.now.x.0 None self.now.t.0 self.now.z.0 self.now.declared) store.old store.new result }
     {
         let alone = EvalCtc {
@@ -281,7 +316,7 @@ impl EvalCtc {
             z: self.z,
             declared: self.declared,
         };
-        let placed = alone.placed(store);
+        let placed = Placed { ctc: alone, near };
         revise_by_formulas(&placed, store)
     }
 
@@ -290,11 +325,11 @@ impl EvalCtc {
         requires { EvalFits store.old.shape self.now.x.0 (rate_of self.now.rate) self.now.t.0 self.now.z.0 }
         ensures { Revises (eval_projections store.old.shape self.now.x.0 (rate_of self.now.rate) self.now.t.0 self.now.z.0 self.now.declared) store.old store.new result }
     {
-        let one = self.fire_alone(store);
+        let near = self.near(store);
+        let one = self.fire_alone(store, near);
         match self.rate {
             None => one,
             Some(rate) => {
-                let near = self.near(store);
                 let two = self.revise_reached(store, rate, near);
                 one.then(two)
             }
@@ -363,9 +398,9 @@ impl Formulas for Placed {
     fn given(&self, store: &Store, i: u32) -> Given {
         match self.ctc.held(store, self.near, i) {
             Held::Value => self.ctc.value_given(store),
-            Held::Time => self.ctc.time_given(store),
+            Held::Time => self.ctc.time_given(store, self.near),
             Held::Gate(gate) => self.ctc.gate_given(store, gate),
-            Held::Reached(rate, gate) => self.ctc.reached_given(store, rate, gate),
+            Held::Reached(rate, gate) => self.ctc.reached_given(store, self.near, rate, gate),
         }
     }
 }

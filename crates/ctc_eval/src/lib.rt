@@ -16,7 +16,6 @@ mod laws;
 mod near;
 mod readings;
 mod sweep;
-mod walk;
 
 pub use eval::EvalCtc;
 pub use laws::{declared_law, eval_law};

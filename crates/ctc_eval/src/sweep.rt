@@ -1,18 +1,15 @@
-//! What a signal and a value share, tick by tick, and what a gate may come to from there.
+//! What a signal and a value share, place by place, and what a gate may come to from there.
 
-ghost use Rattle.std.specs.Prelude.{◌≡◌, ℕ, ◌+◌, ◌*◌, ◌<◌, ◌≤◌, IsSome, IfSome, Some, length, pos};
-ghost use Rattle.std.specs.Option.{option_map};
+ghost use Rattle.std.specs.Prelude.{◌≡◌, ℕ, ◌+◌, ◌*◌, ◌<◌, ◌≤◌, IsSome, IfSome, length, slice_index};
 ghost use Rattle.tube_spec.specs.Limits.{greatest_bound};
-ghost use Rattle.tube_spec.specs.Span.{IsBounded, point, add_of};
+ghost use Rattle.tube_spec.specs.Span.{IsBounded};
 ghost use Rattle.tube_spec.specs.Grid.{last_tick};
-ghost use Rattle.tube_spec.specs.Tick.{tick_place};
 ghost use Rattle.ctc_eval.specs.Clock.{IsHullOver, only_in, cells_of};
 ghost use Rattle.ctc_eval.specs.Evals.{shared_at, met_at, reached_from};
-ghost use Rattle.ctc_eval.specs.Walks.{shared_by, later_by, IsFromBefore, IsFromAfter};
+ghost use Rattle.ctc_eval.specs.Walks.{shared_by, Covers, IsFromBefore, IsFromOn};
 
-use super::clock::{join, shared};
-use super::readings::{signal, variable};
-use super::walk::{next_place, place_at, place_before};
+use super::clock::{Stretch, gained, join, later, shared, times};
+use super::readings::{inside, signal, tick_of, ticks_inside, variable};
 use int_interval::Interval;
 use slice_gates::Ticks;
 use tube_store::{SignalId, Store, VarId};
@@ -24,25 +21,6 @@ pub struct Sweep {
     pub x: SignalId,
     /// The value.
     pub z: VarId,
-}
-
-// The interval of 0 alone.
-fn zero() -> Interval
-    ensures { result ≡ point (pos 0) }
-{
-    Interval::new(0, 0).unwrap()
-}
-
-// The hull after one tick more, where there is one.
-fn later(hull: Option<Interval>, rate: Interval) -> Option<Interval>
-    requires hull { IfSome hull (IsBounded 60000000000000) }
-    requires rate { IsBounded greatest_bound rate }
-    ensures { result ≡ later_by rate hull }
-{
-    match hull {
-        Some(hull) => Some(hull.add(rate)),
-        None => None,
-    }
 }
 
 impl Sweep {
@@ -58,145 +36,170 @@ impl Sweep {
         shared(variable(store, self.z), signal(store, self.x, place))
     }
 
-    // The tick, where the signal meets the value at its place.
-    fn met_at(&self, store: &Store, tick: u32, place: u32) -> Option<Interval>
+    /// What they share at a gate, if its tick is one of the ticks.
+    pub fn shared_in(&self, store: &Store, ticks: Ticks, gate: u32) -> Option<Interval>
         requires signal { self.now.x.0 < length store.now.shape.signals }
         requires value { self.now.z.0 < length store.now.shape.vars }
-        requires tick { tick ≤ last_tick store.now.shape.grid }
-        requires place { place ≡ tick_place store.now.shape.grid tick }
+        requires gate { gate < length store.now.shape.grid }
         requires filled { IsSome store.now.box }
-        ensures { result ≡ met_at store.now.shape self.now.x.0 self.now.z.0 (cells_of store.now.box) tick }
+        ensures { result ≡ only_in ticks (shared_at store.now.shape self.now.x.0 self.now.z.0 (cells_of store.now.box)) (slice_index store.now.shape.grid gate) }
     {
         store.known();
-        let _both = self.shared_at(store, place)?;
-        Interval::new(tick as i64, tick as i64)
-    }
-
-    /// The hull of the ticks at which the signal meets the value, of some ticks of the clock.
-    pub fn met(&self, store: &Store, ticks: Ticks) -> Option<Interval>
-        requires signal { self.now.x.0 < length store.now.shape.signals }
-        requires value { self.now.z.0 < length store.now.shape.vars }
-        requires clock { ticks.last ≤ last_tick store.now.shape.grid }
-        requires filled { IsSome store.now.box }
-        ensures { IsHullOver (only_in ticks (met_at store.now.shape self.now.x.0 self.now.z.0 (cells_of store.now.box))) ticks.first (ticks.last + 1) result }
-    {
-        store.known();
-        let mut hull = None;
-        let mut place = place_at(store, ticks.first);
-        for tick in ticks.first..ticks.last + 1 {
-            let here = self.met_at(store, tick, place);
-            hull = join(hull, here);
-            place = next_place(store, tick, place);
-        }
-        hull
-    }
-
-    // What the signal may come to from a tick at its place, if it is one of the ticks, where its rate adds `gain` from there on.
-    fn reached_with(
-        &self,
-        store: &Store,
-        ticks: Ticks,
-        tick: u32,
-        place: u32,
-        gain: Interval,
-    ) -> Option<Interval>
-        requires signal { self.now.x.0 < length store.now.shape.signals }
-        requires value { self.now.z.0 < length store.now.shape.vars }
-        requires tick { tick ≤ last_tick store.now.shape.grid }
-        requires place { place ≡ tick_place store.now.shape.grid tick }
-        requires filled { IsSome store.now.box }
-        requires gain { IsBounded 50000000000000 gain }
-        ensures { result ≡ only_in ticks (λ k. option_map (λ both. add_of both gain) (shared_at store.now.shape self.now.x.0 self.now.z.0 (cells_of store.now.box) k)) tick }
-    {
+        let tick = tick_of(store, gate);
         if tick < ticks.first || ticks.last < tick {
             return None;
         }
-        store.known();
-        let both = self.shared_at(store, place)?;
-        Some(both.add(gain))
+        self.shared_at(store, 2 * gate)
     }
 
-    // What the signal may come to at the tick `gate` from the ticks before it. Going back from the gate, each tick adds its own rate to the sum.
-    fn reached_from_before(
-        &self,
-        store: &Store,
-        rate: SignalId,
-        ticks: Ticks,
-        gate: u32,
-    ) -> Option<Interval>
+    // The tick of a gate, where it is one of the ticks and the signal meets the value there.
+    fn met_at(&self, store: &Store, ticks: Ticks, gate: u32) -> Option<Interval>
         requires signal { self.now.x.0 < length store.now.shape.signals }
-        requires rate { rate.0 < length store.now.shape.signals }
         requires value { self.now.z.0 < length store.now.shape.vars }
-        requires gate { gate ≤ last_tick store.now.shape.grid }
+        requires gate { gate < length store.now.shape.grid }
         requires filled { IsSome store.now.box }
-        ensures { IsHullOver (only_in ticks (reached_from store.now.shape self.now.x.0 rate.0 self.now.z.0 gate (cells_of store.now.box))) ticks.first gate result }
+        ensures { result ≡ only_in ticks (met_at store.now.shape self.now.x.0 self.now.z.0 (cells_of store.now.box)) (slice_index store.now.shape.grid gate) }
+    {
+        let tick = tick_of(store, gate);
+        let _both = self.shared_in(store, ticks, gate)?;
+        Interval::new(tick as i64, tick as i64)
+    }
+
+    // The hull of those of the ticks that lie inside a slice at which the signal meets the value: all of them or none.
+    fn met_inside(&self, store: &Store, ticks: Ticks, slice: u32) -> Option<Interval>
+        requires signal { self.now.x.0 < length store.now.shape.signals }
+        requires value { self.now.z.0 < length store.now.shape.vars }
+        requires slice { slice + 1 < length store.now.shape.grid }
+        requires filled { IsSome store.now.box }
+        ensures { IsHullOver (only_in ticks (met_at store.now.shape self.now.x.0 self.now.z.0 (cells_of store.now.box))) (slice_index store.now.shape.grid slice + 1) (slice_index store.now.shape.grid (slice + 1)) result }
     {
         store.known();
+        let inner = inside(store, ticks, slice)?;
+        let _both = self.shared_at(store, 2 * slice + 1)?;
+        Interval::new(inner.first as i64, inner.last as i64)
+    }
+
+    /// The hull of the ticks at which the signal meets the value, of some ticks of the clock. It looks at each gate and each envelope once.
+    pub fn met(&self, store: &Store, stretch: Stretch) -> Option<Interval>
+        requires signal { self.now.x.0 < length store.now.shape.signals }
+        requires value { self.now.z.0 < length store.now.shape.vars }
+        requires covers { Covers store.now.shape.grid stretch.ticks stretch.near }
+        requires filled { IsSome store.now.box }
+        ensures { IsHullOver (only_in stretch.ticks (met_at store.now.shape self.now.x.0 self.now.z.0 (cells_of store.now.box))) stretch.ticks.first (stretch.ticks.last + 1) result }
+    {
+        store.known();
+        let last = stretch.near.last + 1;
         let mut hull = None;
-        let mut gain = zero();
-        let mut place = place_at(store, gate);
-        for tick in (ticks.first..gate).rev() {
-            place = place_before(store, tick, place);
-            gain = gain.add(signal(store, rate, place));
-            let here = self.reached_with(store, ticks, tick, place, gain);
-            hull = join(hull, here);
+        for slice in stretch.near.first..last {
+            let gate = self.met_at(store, stretch.ticks, slice);
+            let until = join(hull, gate);
+            let inner = self.met_inside(store, stretch.ticks, slice);
+            hull = join(until, inner);
         }
-        hull
+        let end = self.met_at(store, stretch.ticks, last);
+        join(hull, end)
     }
 
-    // What the signal may come to at the tick `gate` from that tick and those after it. Going on from the gate, each tick takes its own rate off the
-    // sum for the next one.
-    fn reached_from_after(
-        &self,
-        store: &Store,
-        rate: SignalId,
-        ticks: Ticks,
-        gate: u32,
-    ) -> Option<Interval>
+    // What the signal may come to at the end of a slice from the ticks inside it. They share one interval with the value and have one rate, so what
+    // each gives lies between what the first and the last of them give.
+    fn inside_on(&self, store: &Store, rate: SignalId, ticks: Ticks, slice: u32) -> Option<Interval>
         requires signal { self.now.x.0 < length store.now.shape.signals }
         requires rate { rate.0 < length store.now.shape.signals }
         requires value { self.now.z.0 < length store.now.shape.vars }
-        requires gate { gate ≤ last_tick store.now.shape.grid }
-        requires clock { ticks.last ≤ last_tick store.now.shape.grid }
+        requires slice { slice + 1 < length store.now.shape.grid }
         requires filled { IsSome store.now.box }
-        ensures { IsHullOver (only_in ticks (reached_from store.now.shape self.now.x.0 rate.0 self.now.z.0 gate (cells_of store.now.box))) gate (ticks.last + 1) result }
+        ensures { IsHullOver (only_in ticks (reached_from store.now.shape self.now.x.0 rate.0 self.now.z.0 (slice_index store.now.shape.grid (slice + 1)) (cells_of store.now.box))) (slice_index store.now.shape.grid slice + 1) (slice_index store.now.shape.grid (slice + 1)) result }
     {
         store.known();
-        let mut hull = None;
-        let mut gain = zero();
-        let mut place = place_at(store, gate);
-        for tick in gate..ticks.last + 1 {
-            let here = self.reached_with(store, ticks, tick, place, gain);
-            hull = join(hull, here);
-            gain = gain.sub(signal(store, rate, place));
-            place = next_place(store, tick, place);
-        }
-        hull
+        let inner = inside(store, ticks, slice)?;
+        let both = self.shared_at(store, 2 * slice + 1)?;
+        let gain = signal(store, rate, 2 * slice + 1);
+        let end = tick_of(store, slice + 1);
+        Some(gained(both, gain, end - inner.first, end - inner.last))
     }
 
-    /// What the signal may come to at the tick `gate` from some ticks of the clock, by its rate. It looks at each of them once.
-    pub fn reached(
+    // What the signal may come to at the tick after the start of a slice from the ticks inside it.
+    fn inside_back(
         &self,
         store: &Store,
         rate: SignalId,
         ticks: Ticks,
-        gate: u32,
+        slice: u32,
     ) -> Option<Interval>
         requires signal { self.now.x.0 < length store.now.shape.signals }
         requires rate { rate.0 < length store.now.shape.signals }
         requires value { self.now.z.0 < length store.now.shape.vars }
-        requires gate { gate ≤ last_tick store.now.shape.grid }
-        requires clock { ticks.last ≤ last_tick store.now.shape.grid }
+        requires slice { slice + 1 < length store.now.shape.grid }
         requires filled { IsSome store.now.box }
-        ensures { IsHullOver (only_in ticks (reached_from store.now.shape self.now.x.0 rate.0 self.now.z.0 gate (cells_of store.now.box))) ticks.first (ticks.last + 1) result }
+        ensures { IsHullOver (only_in ticks (reached_from store.now.shape self.now.x.0 rate.0 self.now.z.0 (slice_index store.now.shape.grid slice + 1) (cells_of store.now.box))) (slice_index store.now.shape.grid slice + 1) (slice_index store.now.shape.grid (slice + 1)) result }
     {
-        let before = self.reached_from_before(store, rate, ticks, gate);
-        let after = self.reached_from_after(store, rate, ticks, gate);
-        join(before, after)
+        store.known();
+        let inner = inside(store, ticks, slice)?;
+        let both = self.shared_at(store, 2 * slice + 1)?;
+        let gain = signal(store, rate, 2 * slice + 1).neg();
+        let first = tick_of(store, slice) + 1;
+        Some(gained(both, gain, inner.first - first, inner.last - first))
     }
 
-    /// What the ticks before the tick `to` give there, from what those before the tick `from` give at `from`: each tick between adds what it shares
-    /// with the value, and its rate to all.
+    // What the ticks before the end of a slice give there, from what those before its start give at its start.
+    fn slice_on(
+        &self,
+        store: &Store,
+        rate: SignalId,
+        ticks: Ticks,
+        slice: u32,
+        before: Option<Interval>,
+    ) -> Option<Interval>
+        requires signal { self.now.x.0 < length store.now.shape.signals }
+        requires rate { rate.0 < length store.now.shape.signals }
+        requires value { self.now.z.0 < length store.now.shape.vars }
+        requires slice { slice + 1 < length store.now.shape.grid }
+        requires filled { IsSome store.now.box }
+        requires before { IsFromBefore store.now.shape self.now.x.0 rate.0 self.now.z.0 (cells_of store.now.box) ticks (slice_index store.now.shape.grid slice) before }
+        ensures { IsFromBefore store.now.shape self.now.x.0 rate.0 self.now.z.0 (cells_of store.now.box) ticks (slice_index store.now.shape.grid (slice + 1)) result }
+    {
+        store.known();
+        let here = self.shared_in(store, ticks, slice);
+        let whole = join(before, here);
+        let next = later(whole, signal(store, rate, 2 * slice));
+        let gain = times(
+            signal(store, rate, 2 * slice + 1),
+            ticks_inside(store, slice),
+        );
+        let moved = later(next, gain);
+        let more = self.inside_on(store, rate, ticks, slice);
+        join(moved, more)
+    }
+
+    // What the ticks from the start of a slice on give there, from what those from its end on give at its end.
+    fn slice_back(
+        &self,
+        store: &Store,
+        rate: SignalId,
+        ticks: Ticks,
+        slice: u32,
+        after: Option<Interval>,
+    ) -> Option<Interval>
+        requires signal { self.now.x.0 < length store.now.shape.signals }
+        requires rate { rate.0 < length store.now.shape.signals }
+        requires value { self.now.z.0 < length store.now.shape.vars }
+        requires slice { slice + 1 < length store.now.shape.grid }
+        requires filled { IsSome store.now.box }
+        requires after { IsFromOn store.now.shape self.now.x.0 rate.0 self.now.z.0 (cells_of store.now.box) ticks (slice_index store.now.shape.grid (slice + 1)) after }
+        ensures { IsFromOn store.now.shape self.now.x.0 rate.0 self.now.z.0 (cells_of store.now.box) ticks (slice_index store.now.shape.grid slice) result }
+    {
+        store.known();
+        let opposite = signal(store, rate, 2 * slice + 1).neg();
+        let gain = times(opposite, ticks_inside(store, slice));
+        let moved = later(after, gain);
+        let more = self.inside_back(store, rate, ticks, slice);
+        let whole = join(more, moved);
+        let first = later(whole, signal(store, rate, 2 * slice).neg());
+        let here = self.shared_in(store, ticks, slice);
+        join(first, here)
+    }
+
+    /// What the ticks before the gate `to` give there, from what those before the gate `from` give at that one.
     pub fn carried_on(
         &self,
         store: &Store,
@@ -210,25 +213,19 @@ impl Sweep {
         requires rate { rate.0 < length store.now.shape.signals }
         requires value { self.now.z.0 < length store.now.shape.vars }
         requires order { from ≤ to }
-        requires clock { to ≤ last_tick store.now.shape.grid }
+        requires gate { to < length store.now.shape.grid }
         requires filled { IsSome store.now.box }
-        requires before { IsFromBefore store.now.shape self.now.x.0 rate.0 self.now.z.0 (cells_of store.now.box) ticks from before }
-        ensures { IsFromBefore store.now.shape self.now.x.0 rate.0 self.now.z.0 (cells_of store.now.box) ticks to result }
+        requires before { IsFromBefore store.now.shape self.now.x.0 rate.0 self.now.z.0 (cells_of store.now.box) ticks (slice_index store.now.shape.grid from) before }
+        ensures { IsFromBefore store.now.shape self.now.x.0 rate.0 self.now.z.0 (cells_of store.now.box) ticks (slice_index store.now.shape.grid to) result }
     {
-        store.known();
         let mut hull = before;
-        let mut place = place_at(store, from);
-        for tick in from..to {
-            let none = zero();
-            let here = self.reached_with(store, ticks, tick, place, none);
-            let whole = join(hull, here);
-            hull = later(whole, signal(store, rate, place));
-            place = next_place(store, tick, place);
+        for slice in from..to {
+            hull = self.slice_on(store, rate, ticks, slice, hull);
         }
         hull
     }
 
-    /// What the ticks after the tick `to` give there, from what those after the tick `from` give at `from`.
+    /// What the ticks from the gate `to` on give there, from what those from the gate `from` on give at that one.
     pub fn carried_back(
         &self,
         store: &Store,
@@ -242,46 +239,15 @@ impl Sweep {
         requires rate { rate.0 < length store.now.shape.signals }
         requires value { self.now.z.0 < length store.now.shape.vars }
         requires order { to ≤ from }
-        requires clock { from ≤ last_tick store.now.shape.grid }
+        requires gate { from < length store.now.shape.grid }
         requires filled { IsSome store.now.box }
-        requires after { IsFromAfter store.now.shape self.now.x.0 rate.0 self.now.z.0 (cells_of store.now.box) ticks from after }
-        ensures { IsFromAfter store.now.shape self.now.x.0 rate.0 self.now.z.0 (cells_of store.now.box) ticks to result }
+        requires after { IsFromOn store.now.shape self.now.x.0 rate.0 self.now.z.0 (cells_of store.now.box) ticks (slice_index store.now.shape.grid from) after }
+        ensures { IsFromOn store.now.shape self.now.x.0 rate.0 self.now.z.0 (cells_of store.now.box) ticks (slice_index store.now.shape.grid to) result }
     {
-        store.known();
         let mut hull = after;
-        let mut place = place_at(store, from);
-        for tick in (to..from).rev() {
-            let none = zero();
-            let here = self.reached_with(store, ticks, tick + 1, place, none);
-            let whole = join(hull, here);
-            place = place_before(store, tick, place);
-            hull = later(whole, signal(store, rate, place).neg());
+        for slice in (to..from).rev() {
+            hull = self.slice_back(store, rate, ticks, slice, hull);
         }
         hull
-    }
-
-    /// What the signal may come to at a tick from all ticks of the time, by what those before it and those after it give at it.
-    pub fn come_to(
-        &self,
-        store: &Store,
-        ticks: Ticks,
-        tick: u32,
-        before: Option<Interval>,
-        after: Option<Interval>,
-    ) -> Option<Interval>
-        requires signal { self.now.x.0 < length store.now.shape.signals }
-        requires value { self.now.z.0 < length store.now.shape.vars }
-        requires clock { ticks.last ≤ last_tick store.now.shape.grid }
-        requires tick { tick ≤ last_tick store.now.shape.grid }
-        requires filled { IsSome store.now.box }
-        ensures { (v : ℕ) → IsFromBefore store.now.shape self.now.x.0 v self.now.z.0 (cells_of store.now.box) ticks tick before
-            → IsFromAfter store.now.shape self.now.x.0 v self.now.z.0 (cells_of store.now.box) ticks tick after
-            → IsHullOver (only_in ticks (reached_from store.now.shape self.now.x.0 v self.now.z.0 tick (cells_of store.now.box))) ticks.first (ticks.last + 1) result }
-    {
-        let place = place_at(store, tick);
-        let none = zero();
-        let here = self.reached_with(store, ticks, tick, place, none);
-        let until = join(before, here);
-        join(until, after)
     }
 }

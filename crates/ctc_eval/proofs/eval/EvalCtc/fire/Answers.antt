@@ -1,4 +1,4 @@
-use Rattle.std.proofs.Common.{◌≡◌, ◌<◌, ℕ, Option, None, IfSome, List, map, length, sym, ap, subst, ◌∙◌}
+use Rattle.std.proofs.Common.{◌≡◌, ◌<◌, ℕ, Option, None, IfSome, List, map, length, sym, subst}
 use Rattle.std.proofs.lemmas.List.Elements.{All-map}
 use Rattle.tube_spec.specs.Span.{Span}
 use Rattle.tube_spec.specs.Shape.{Shape}
@@ -9,7 +9,7 @@ use Rattle.ctc_core.specs.Answers.{Revises, then_of}
 use Rattle.ctc_core.proofs.Firing.{Revises-then}
 use Rattle.slice_gates.specs.Near.{near_of, gates_of}
 use Rattle.slice_gates.specs.declared.near.Near.{Near}
-use Rattle.ctc_eval.specs.Held.{rate_of}
+use Rattle.ctc_eval.specs.Held.{rate_of, IsFound}
 use Rattle.ctc_eval.specs.Evals.{EvalFits, eval_projections, reached_projection}
 use Rattle.ctc_eval.specs.EvalLaws.{reached-monotone}
 use Rattle.ctc_core.proofs.Fixing.{if-each}
@@ -27,6 +27,9 @@ revise_reached-two-requires-clause-fits c =
     let me = c.args.self.now in
     subst (λ (s : Shape). EvalFits s me.x.0 (rate_of me.rate) me.t.0 me.z.0) (sym c.fire_alone-one.ensures.revised.shape) c.requires
 
+pub revise_reached-two-requires-clause-found : goal.revise_reached-two-requires-clause-found
+revise_reached-two-requires-clause-found c = subst (λ (s : Shape). IsFound s.grid c.args.self.now.declared c.near-near.result) (sym c.fire_alone-one.ensures.revised.shape) c.near-near.ensures.found
+
 pub revise_reached-two-requires-clause-rate : goal.revise_reached-two-requires-clause-rate
 revise_reached-two-requires-clause-rate c =
     let rates = subst (λ (r : Option SignalId). IfSome (rate_of r) (λ k. k < length c.args.store.now.shape.signals)) c.in-Some.is c.requires.rates in
@@ -43,7 +46,7 @@ returns-in-Some c =
     let p : ℕ → Projection = reached_projection old.shape me.x.0 v me.t.0 me.z.0 me.declared in
     let gs : List ℕ = gates_of (near_of old.shape.grid me.declared) in
     let anywhere : List Span → Type 0 = λ xs. Unit {0} in
-    let near : c.near-near.result ≡ near_of old.shape.grid me.declared = c.near-near.ensures.value ∙ ap (λ (s : Shape). near_of s.grid me.declared) shape in
+    let near : c.near-near.result ≡ near_of old.shape.grid me.declared = c.near-near.ensures.value in
     let by_shape = subst (λ (s : Shape). Revises (map (reached_projection s me.x.0 v me.t.0 me.z.0 me.declared) (gates_of c.near-near.result)) mid new c.revise_reached-two.result) shape c.revise_reached-two.ensures in
     let two = subst (λ (o : Option Near). Revises (map p (gates_of o)) mid new c.revise_reached-two.result) near by_shape in
     let alone : List Projection = eval_projections old.shape me.x.0 None me.t.0 me.z.0 me.declared in

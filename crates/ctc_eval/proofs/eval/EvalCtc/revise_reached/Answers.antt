@@ -8,10 +8,11 @@ use Rattle.ctc_core.specs.declared.Revised.{Revised}
 use Rattle.ctc_core.specs.Answers.{Revises, then_of}
 use Rattle.ctc_core.proofs.Firing.{Revises-then}
 use Rattle.slice_gates.specs.Near.{gates_of}
-use Rattle.ctc_eval.specs.Held.{rate_of}
+use Rattle.ctc_eval.specs.Held.{rate_of, IsFound}
 use Rattle.ctc_eval.specs.Evals.{EvalFits, reached_projection}
 use Rattle.ctc_eval.specs.EvalLaws.{reached-monotone}
 use Rattle.ctc_core.proofs.Fixing.{if-each}
+use Rattle.ctc_eval.proofs.Places.{gates-near}
 use Rattle.ctc_eval.proofs.Blocks.{gates-range, gates-inside, map-range-append}
 use Rattle.ctc_eval.proofs.eval.EvalCtc.revise_reached.Goals as goal
 
@@ -26,8 +27,15 @@ revise_block-next-requires-clause-fits c =
 pub revise_block-next-requires-clause-rate : goal.revise_block-next-requires-clause-rate
 revise_block-next-requires-clause-rate c = subst (λ (s : Shape). c.args.rate.0 < length s.signals) (sym c.loop-done.invariant.fired.revised.shape) c.requires.rate
 
+pub revise_block-next-requires-clause-found : goal.revise_block-next-requires-clause-found
+revise_block-next-requires-clause-found c = subst (λ (s : Shape). IsFound s.grid c.args.self.now.declared c.args.near) (sym c.loop-done.invariant.fired.revised.shape) c.requires.found
+
 pub revise_block-next-requires-clause-gates : goal.revise_block-next-requires-clause-gates
 revise_block-next-requires-clause-gates c =
+    gates-near c.args.near c.first-from.result c.loop-done.done c.min-here.result c.first-from.ensures c.requires.found.order (omega (arith, c.gates-count.ensures.value, c.loop-done-test.true))
+
+pub revise_block-next-requires-clause-named : goal.revise_block-next-requires-clause-named
+revise_block-next-requires-clause-named c =
     let inside = gates-inside c.args.store.now.shape.grid c.args.self.now.declared c.args.near c.requires.found in
     subst (λ (s : Shape). c.first-from.result + c.loop-done.done + c.min-here.result ≤ length s.grid) (sym c.loop-done.invariant.fired.revised.shape)
     (omega (arith, inside, c.first-from.ensures, c.gates-count.ensures.value, c.loop-done-test.true))
