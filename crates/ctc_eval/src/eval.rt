@@ -17,14 +17,14 @@ ghost use Rattle.ctc_eval.specs.Held.{IsFound, IsOfShape, PlacedFits, projection
 
 use super::block::{Block, given_of, hulls_whole};
 use super::clock::Stretch;
-use super::near::{first, gates, places};
+use super::near::{first, gates, places, slices_near};
 use super::readings::variable;
 use super::sweep::Sweep;
 use ctc_core::{
     Contractor, Formulas, Given, Revised, revise_by_formulas, start, still_by_formulas,
 };
 use int_interval::Interval;
-use slice_gates::{Near, Ticks, near_in, ticks_in};
+use slice_gates::{Near, Ticks, ticks_in};
 use std::sync::ledger::Ledger;
 use step_count::Steps;
 use tube_store::{CellId, SignalId, Store, VarId};
@@ -84,7 +84,7 @@ impl EvalCtc {
         ensures found { IsFound store.now.shape.grid self.now.declared result }
     {
         store.known();
-        near_in(store.grid(), self.declared)
+        slices_near(store.grid(), self.declared)
     }
 
     // The ticks that the time may be at.
