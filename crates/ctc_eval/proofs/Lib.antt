@@ -5,5 +5,6 @@ pub mod Products
 pub mod Stretches
 pub mod Covering
 pub mod Blocks
+pub mod Moving
 pub mod Stable
 mod Examples

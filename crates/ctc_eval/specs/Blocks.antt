@@ -1,9 +1,10 @@
 -- Gates one after another, and what their formulas give in one box.
-use Rattle.std.specs.Prelude.{◌≡◌, ℕ, ◌+◌, ◌<◌, ◌≤◌, List, Option, None, length, map, slice_index, slice_index_or}
+use Rattle.std.specs.Prelude.{Bool, IsTrue, IsFalse, IfSome, IsSomeAnd, ◌≡◌, ℕ, ◌+◌, ◌<◌, ◌≤◌, List, Option, None, length, map, slice_index, slice_index_or}
 use Rattle.std.specs.List.{range_with_len}
 use Rattle.tube_spec.specs.Span.{Span}
 use Rattle.tube_spec.specs.Narrowing.{narrowing_of}
 use Rattle.tube_spec.specs.Shape.{Shape, gate_cell}
+use Rattle.tube_spec.specs.Fixpoint.{IsFixpoint}
 use Rattle.tube_spec.specs.Projection.{Projection}
 use Rattle.slice_gates.specs.declared.clock.Ticks.{Ticks}
 use Rattle.ctc_eval.specs.declared.block.Block.{Block}
@@ -27,3 +28,8 @@ pub record BlockFits (s : Shape) (b : Block) : Type 0 where
 -- what the signal may come to at a gate from the ticks of the time
 abbrev pub IsFromAll : Shape → ℕ → ℕ → ℕ → List Span → Ticks → ℕ → Option Span → Type 0
 IsFromAll s x v z xs ticks gate h = IsHullOver (only_in ticks (reached_from s x v z (slice_index s.grid gate) xs)) ticks.first (ticks.last + 1) h
+
+-- the answer is true where the box is neither empty nor a fixpoint, and else false
+pub record IsMoved (ps : List Projection) (box : Option (List Span)) (answer : Bool) : Type 0 where
+  pub yes : IsTrue answer → IsSomeAnd box (λ xs. IsFixpoint ps xs → ⊥)
+  pub no : IsFalse answer → IfSome box (IsFixpoint ps)

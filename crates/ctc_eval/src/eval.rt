@@ -13,6 +13,7 @@ ghost use Rattle.slice_gates.specs.Near.{near_of, gates_of, places_of};
 ghost use Rattle.ctc_eval.specs.Evals.{EvalFits, cells_near, eval_projections, time_of, value_hull, time_hull, gate_narrowing, reached_hull, reached_projection};
 ghost use Rattle.std.specs.Option.{option_map};
 ghost use Rattle.ctc_eval.specs.Walks.{Covers};
+ghost use Rattle.ctc_eval.specs.Blocks.{IsMoved};
 ghost use Rattle.ctc_eval.specs.Held.{IsFound, IsOfShape, PlacedFits, projection_of, rate_of};
 
 use super::block::{Block, given_of, hulls_whole};
@@ -112,6 +113,19 @@ impl EvalCtc {
         let near = near?;
         let ticks = self.ticks(store)?;
         Some(Stretch { ticks, near })
+    }
+
+    // The same without its rate.
+    fn alone(&self) -> EvalCtc
+        ensures { result ≡ record { x = self.now.x; rate = None; t = self.now.t; z = self.now.z; declared = self.now.declared } }
+    {
+        EvalCtc {
+            x: self.x,
+            rate: None,
+            t: self.t,
+            z: self.z,
+            declared: self.declared,
+        }
     }
 
     // The signal and the value.
@@ -283,6 +297,86 @@ impl EvalCtc {
         revise_by_formulas(&block, store)
     }
 
+    // Whether a firing of the projections of these gates would change the store.
+    fn moves_block(
+        &self,
+        store: &Store,
+        near: Option<Near>,
+        rate: SignalId,
+        first: u32,
+        count: u32,
+    ) -> bool
+        requires found { IsFound store.now.shape.grid self.now.declared near }
+        requires fits { EvalFits store.now.shape self.now.x.0 (rate_of self.now.rate) self.now.t.0 self.now.z.0 }
+        requires rate { rate.0 < length store.now.shape.signals }
+        requires some { 0 < count }
+        requires few { count ≤ 16 }
+        requires gates { IfSome near (λ near. (near.first ≤ first) × (first + count ≤ near.last + 2)) }
+        requires named { first + count ≤ length store.now.shape.grid }
+        ensures { IsMoved (map (reached_projection store.now.shape self.now.x.0 rate.0 self.now.t.0 self.now.z.0 self.now.declared) (range_with_len first count)) store.now.box result }
+    {
+        if store.is_empty() {
+            return false;
+        }
+        let hulls = self.hulls(store, near, rate, first, count);
+        let block = Block {
+            x: self.x,
+            first,
+            count,
+            hulls,
+        };
+        still_by_formulas(&block, store)
+    }
+
+    // Whether a firing of the projections of the gates by the rate would change the store.
+    fn moves_reached(&self, store: &Store, near: Option<Near>, rate: SignalId) -> bool
+        requires found { IsFound store.now.shape.grid self.now.declared near }
+        requires fits { EvalFits store.now.shape self.now.x.0 (rate_of self.now.rate) self.now.t.0 self.now.z.0 }
+        requires rate { rate.0 < length store.now.shape.signals }
+        ensures { IsMoved (map (reached_projection store.now.shape self.now.x.0 rate.0 self.now.t.0 self.now.z.0 self.now.declared) (gates_of near)) store.now.box result }
+    {
+        store.known();
+        let from = first(near);
+        let count = gates(near);
+        let mut done = 0;
+        while done < count {
+            let here = (count - done).min(16);
+            if self.moves_block(store, near, rate, from + done, here) {
+                return true;
+            }
+            done += here;
+        }
+        false
+    }
+
+    // Whether a firing of the projections that it has without a rate would change the store.
+    fn moves_alone(&self, store: &Store, near: Option<Near>) -> bool
+        requires found { IsFound store.now.shape.grid self.now.declared near }
+        requires fits { EvalFits store.now.shape self.now.x.0 (rate_of self.now.rate) self.now.t.0 self.now.z.0 }
+        ensures { IsMoved (eval_projections store.now.shape self.now.x.0 None self.now.t.0 self.now.z.0 self.now.declared) store.now.box result }
+    {
+        let placed = Placed {
+            ctc: self.alone(),
+            near,
+        };
+        still_by_formulas(&placed, store)
+    }
+
+    // Whether a firing would change the store.
+    fn moves(&self, store: &Store) -> bool
+        requires { EvalFits store.now.shape self.now.x.0 (rate_of self.now.rate) self.now.t.0 self.now.z.0 }
+        ensures { IsMoved (eval_projections store.now.shape self.now.x.0 (rate_of self.now.rate) self.now.t.0 self.now.z.0 self.now.declared) store.now.box result }
+    {
+        let near = self.near(store);
+        if self.moves_alone(store, near) {
+            return true;
+        }
+        match self.rate {
+            None => false,
+            Some(rate) => self.moves_reached(store, near, rate),
+        }
+    }
+
     // Fires the projections of each gate by the rate, sixteen gates at a time.
     fn revise_reached(&self, store: &mut Store, rate: SignalId, near: Option<Near>) -> Revised
         requires fits { EvalFits store.old.shape self.now.x.0 (rate_of self.now.rate) self.now.t.0 self.now.z.0 }
@@ -309,14 +403,10 @@ impl EvalCtc {
         requires fits { EvalFits store.old.shape self.now.x.0 (rate_of self.now.rate) self.now.t.0 self.now.z.0 }
         ensures { Revises (eval_projections store.old.shape self.now.x.0 None self.now.t.0 self.now.z.0 self.now.declared) store.old store.new result }
     {
-        let alone = EvalCtc {
-            x: self.x,
-            rate: None,
-            t: self.t,
-            z: self.z,
-            declared: self.declared,
+        let placed = Placed {
+            ctc: self.alone(),
+            near,
         };
-        let placed = Placed { ctc: alone, near };
         revise_by_formulas(&placed, store)
     }
 
@@ -477,7 +567,6 @@ impl Contractor for EvalCtc {
 
     fn still<L: Ledger>(&self, store: &Store, steps: &mut Steps<L>) -> bool {
         steps.tick();
-        let placed = self.placed(store);
-        still_by_formulas(&placed, store)
+        self.moves(store)
     }
 }

@@ -1,4 +1,4 @@
-use Rattle.std.proofs.Common.{◌-◌, ℕ, arith, subst}
+use Rattle.std.proofs.Common.{ℕ, arith, subst}
 use Rattle.slice_gates.specs.Ticks.{IsSliceOf}
 use Rattle.ctc_eval.proofs.Covering.{near-by}
 use Rattle.ctc_eval.proofs.near.slices_near.Goals as goal
