@@ -1,5 +1,5 @@
 -- Over the ticks inside a slice what a signal shares with a value stays the same, and so does its rate: hulls over them, and hulls carried past them.
-use Rattle.std.proofs.Common.{◌≡◌, ℕ, ◌+◌, ◌-◌, ◌*◌, ◌<◌, ◌≤◌, ◌⊎◌, inl, inr, Bool, true, false, cond, leb, ◌&&◌, Option, Some, None, IfSome, IsSome, ◌↔◌, List, length, slice_index, ℤ, pos, arith, refl, sym, ap, subst, ◌∙◌}
+use Rattle.std.proofs.Common.{◌≡◌, ℕ, ◌+◌, ◌-◌, ◌*◌, ◌<◌, ◌≤◌, ◌⊎◌, inl, inr, Bool, true, false, cond, leb, ◌&&◌, Option, Some, None, IfSome, IsSome, ◌↔◌, List, length, slice_index, ℤ, pos, arith, refl, sym, ap, ap₂, subst, ◌∙◌}
 use Rattle.std.specs.Option.{option_map}
 use Rattle.std.proofs.lemmas.Int.{ints, clamps}
 use Rattle.tube_spec.specs.Span.{Span, IsProper, IsWithin, IsBounded, join_of, point, add_of, times_of}
@@ -7,7 +7,7 @@ use Rattle.tube_spec.specs.Hull.{join_option, IsWithinOption}
 use Rattle.tube_spec.specs.Grid.{IsGrid}
 use Rattle.tube_spec.specs.Shape.{Shape}
 use Rattle.tube_spec.specs.Tick.{tick_place, at_tick}
-use Rattle.tube_spec.proofs.Spans.{IsWithinOption-trans, join_option-left, join_option-right, join_option-least, join-least, same_span}
+use Rattle.tube_spec.proofs.Spans.{IsWithinOption-trans, join_option-left, join_option-right, join_option-least, join-least, same_span, IsWithin-refl}
 use Rattle.tube_spec.proofs.Ticks.{tick_place-gate, tick_place-inside, last-greatest}
 use Rattle.int_interval.specs.Image.{neg_of}
 use Rattle.slice_gates.specs.declared.clock.Ticks.{Ticks}
@@ -15,6 +15,9 @@ use Rattle.ctc_eval.specs.Clock.{only_in, IsHullOver}
 use Rattle.ctc_eval.specs.Gains.{gain}
 use Rattle.ctc_eval.specs.GainLaws.{gain-here}
 use Rattle.ctc_eval.specs.Evals.{shared_at, met_at, reached_from}
+use Rattle.ctc_eval.specs.declared.sweep.Asked.{Asked}
+use Rattle.ctc_eval.specs.declared.sweep.Asked.TheVariants.{Value, Time}
+use Rattle.ctc_eval.specs.Asking.{asked_at, part_of}
 use Rattle.ctc_eval.specs.Walks.{at_place, shared_by, later_by, IsInside, AreInside}
 use Rattle.ctc_eval.proofs.Hulls.{hull-first, hull-given, only-inside, only-outside}
 use Rattle.ctc_eval.proofs.Carrying.{carry-on, hull-later, step-same, gain-earlier}
@@ -257,15 +260,29 @@ module _ (s : Shape) (is : IsGrid s.grid) (slice : ℕ) (among : slice + 1 < len
       subst (IsHullOver (from start) start m) (sym (en ∙ ap (join_option first) (eh ∙ shared-here s x v z xs ticks start)))
       (hull-first (from start) start m first lt (step-back s x v z xs ticks start m rate whole first (er ∙ ap neg_of (sym gate-rate)) ef is))
 
-  -- ---- where the signal meets the value
+  -- ---- what is asked of ticks
 
-  abbrev met : ℕ → Option Span
-  met k = only_in ticks (met_at s x z xs) k
+  abbrev asked : Asked → ℕ → Option Span
+  asked a k = only_in ticks (asked_at s x z xs a) k
 
-  pub met-none : None ≡ shared_by s x z xs (2 * slice + 1) → IsHullOver met (start + 1) end None
-  met-none e = hull-nothing met (start + 1) end (λ k p q. only-nothing ticks (met_at s x z xs) k (ap (option_map (λ both. point (pos k))) (shares k (omega (arith, p)) q ∙ sym e)))
+  pub part-inside : (a : Asked) (inner : Ticks) → IsInside ticks start end inner → IsHullOver (asked a) (start + 1) end (part_of s x z xs a inner (2 * slice + 1))
+  part-inside Value inner inside =
+      hull-inside ticks inner (asked_at s x z xs Value) start end (λ k. at_place s xs x (2 * slice + 1)) (at_place s xs x (2 * slice + 1)) inside
+      (λ k p q. ap (λ (place : ℕ). Some (at_place s xs x place)) (place-inside s.grid is slice among k p q)) (λ k p q. IsWithin-refl (at_place s xs x (2 * slice + 1))) (λ t first last. first)
+  part-inside Time inner inside = met (shared_by s x z xs (2 * slice + 1)) refl
+    where
+      meets : (o : Option Span) → shared_by s x z xs (2 * slice + 1) ≡ o → (k : ℕ) → start < k → k < end → met_at s x z xs k ≡ option_map (λ both. point (pos k)) o
+      meets o e k p q = ap (option_map (λ both. point (pos k))) (shares k p q ∙ e)
 
-  pub met-some : (inner : Ticks) (both : Span) → IsInside ticks start end inner → Some both ≡ shared_by s x z xs (2 * slice + 1) → IsHullOver met (start + 1) end (Some (record { lo = pos inner.first; hi = pos inner.last }))
-  met-some inner both inside e =
-      hull-inside ticks inner (met_at s x z xs) start end (λ k. point (pos k)) _ inside (λ k p q. ap (option_map (λ t. point (pos k))) (shares k p q ∙ sym e))
-      (λ k p q. record { low = omega (arith, ints, p); high = omega (arith, ints, q) }) (λ t first last. record { low = first.low; high = last.high })
+      met : (o : Option Span) → shared_by s x z xs (2 * slice + 1) ≡ o → IsHullOver (asked Time) (start + 1) end (option_map (λ both. record { lo = pos inner.first; hi = pos inner.last }) o)
+      met None e = hull-nothing (asked Time) (start + 1) end (λ k p q. only-nothing ticks (met_at s x z xs) k (meets None e k (omega (arith, p)) q))
+      met (Some both) e =
+          hull-inside ticks inner (met_at s x z xs) start end (λ k. point (pos k)) _ inside (meets (Some both) e)
+          (λ k p q. record { low = omega (arith, ints, p); high = omega (arith, ints, q) }) (λ t first last. record { low = first.low; high = last.high })
+
+-- a gate
+pub part-gate : (s : Shape) (x z : ℕ) (xs : List Span) (a : Asked) (k place : ℕ) (ticks : Ticks) → ticks.first ≡ k → ticks.last ≡ k → tick_place s.grid k ≡ place → part_of s x z xs a ticks place ≡ asked_at s x z xs a k
+part-gate s x z xs Value k place ticks first last e = ap (λ (p : ℕ). Some (at_place s xs x p)) (sym e)
+part-gate s x z xs Time k place ticks first last e =
+    ap (λ (p : ℕ). option_map (λ both. record { lo = pos ticks.first; hi = pos ticks.last }) (shared_by s x z xs p)) (sym e)
+    ∙ ap₂ (λ (l h : ℕ). option_map (λ both. let t : Span = record { lo = pos l; hi = pos h } in t) (shared_at s x z xs k)) first last

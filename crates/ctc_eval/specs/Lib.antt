@@ -2,6 +2,7 @@ pub mod Clock
 pub mod Gains
 pub mod Evals
 pub mod Walks
+pub mod Asking
 pub mod Blocks
 pub mod Held
 pub mod ClockLaws

@@ -20,7 +20,7 @@ use super::block::{Block, given_of, hulls_whole};
 use super::clock::Stretch;
 use super::near::{first, gates, places, slices_near};
 use super::readings::variable;
-use super::sweep::Sweep;
+use super::sweep::{Asked, Sweep};
 use ctc_core::{
     Contractor, Formulas, Given, Revised, revise_by_formulas, start, still_by_formulas,
 };
@@ -179,13 +179,14 @@ impl EvalCtc {
     }
 
     // What the formula of the value gives.
-    fn value_given(&self, store: &Store) -> Given
+    fn value_given(&self, store: &Store, near: Option<Near>) -> Given
+        requires found { IsFound store.now.shape.grid self.now.declared near }
         requires fits { EvalFits store.now.shape self.now.x.0 (rate_of self.now.rate) self.now.t.0 self.now.z.0 }
         requires filled { IsSome store.now.box }
         ensures { narrowing_given result ≡ narrowing_of (value_hull store.now.shape self.now.x.0 self.now.t.0 self.now.declared (cells_of store.now.box)) }
     {
-        match self.ticks(store) {
-            Some(ticks) => Given::Within(store.over_ticks(self.x, ticks.first, ticks.last)),
+        match self.stretch(store, near) {
+            Some(stretch) => given_of(self.sweep().over(store, Asked::Value, stretch)),
             None => Given::Nothing,
         }
     }
@@ -198,7 +199,7 @@ impl EvalCtc {
         ensures { narrowing_given result ≡ narrowing_of (time_hull store.now.shape self.now.x.0 self.now.t.0 self.now.z.0 self.now.declared (cells_of store.now.box)) }
     {
         match self.stretch(store, near) {
-            Some(stretch) => given_of(self.sweep().met(store, stretch)),
+            Some(stretch) => given_of(self.sweep().over(store, Asked::Time, stretch)),
             None => Given::Nothing,
         }
     }
@@ -487,7 +488,7 @@ impl Formulas for Placed {
 
     fn given(&self, store: &Store, i: u32) -> Given {
         match self.ctc.held(store, self.near, i) {
-            Held::Value => self.ctc.value_given(store),
+            Held::Value => self.ctc.value_given(store, self.near),
             Held::Time => self.ctc.time_given(store, self.near),
             Held::Gate(gate) => self.ctc.gate_given(store, gate),
             Held::Reached(rate, gate) => self.ctc.reached_given(store, self.near, rate, gate),

@@ -1,11 +1,12 @@
 //! What a signal and a value share, place by place, and what a gate may come to from there.
 
 ghost use Rattle.std.specs.Prelude.{◌≡◌, ℕ, ◌+◌, ◌*◌, ◌<◌, ◌≤◌, IsSome, IfSome, length, slice_index};
-ghost use Rattle.tube_spec.specs.Limits.{greatest_bound};
+ghost use Rattle.tube_spec.specs.Limits.{greatest_bound, most_ticks};
 ghost use Rattle.tube_spec.specs.Span.{IsBounded};
 ghost use Rattle.tube_spec.specs.Grid.{last_tick};
 ghost use Rattle.ctc_eval.specs.Clock.{IsHullOver, only_in, cells_of};
-ghost use Rattle.ctc_eval.specs.Evals.{shared_at, met_at, reached_from};
+ghost use Rattle.ctc_eval.specs.Evals.{shared_at, reached_from};
+ghost use Rattle.ctc_eval.specs.Asking.{asked_at, part_of};
 ghost use Rattle.ctc_eval.specs.Walks.{shared_by, Covers, IsFromBefore, IsFromOn};
 
 use super::clock::{Stretch, gained, join, later, shared, times};
@@ -21,6 +22,15 @@ pub struct Sweep {
     pub x: SignalId,
     /// The value.
     pub z: VarId,
+}
+
+/// What is asked of ticks: what the signal may be at them, or which of them it meets the value at.
+#[derive(Clone, Copy)]
+pub enum Asked {
+    /// What the signal may be.
+    Value,
+    /// The ticks at which it meets the value.
+    Time,
 }
 
 impl Sweep {
@@ -52,51 +62,82 @@ impl Sweep {
         self.shared_at(store, 2 * gate)
     }
 
-    // The tick of a gate, where it is one of the ticks and the signal meets the value there.
-    fn met_at(&self, store: &Store, ticks: Ticks, gate: u32) -> Option<Interval>
+    // What ticks give that stand at one place: what the signal may be there, or where it meets the value the ticks themselves.
+    fn part(&self, store: &Store, asked: Asked, ticks: Ticks, place: u32) -> Option<Interval>
+        requires signal { self.now.x.0 < length store.now.shape.signals }
+        requires value { self.now.z.0 < length store.now.shape.vars }
+        requires order { ticks.first ≤ ticks.last }
+        requires few { ticks.last ≤ most_ticks }
+        requires place { place + 1 < 2 * length store.now.shape.grid }
+        requires filled { IsSome store.now.box }
+        ensures { result ≡ part_of store.now.shape self.now.x.0 self.now.z.0 (cells_of store.now.box) asked ticks place }
+    {
+        match asked {
+            Asked::Value => Some(signal(store, self.x, place)),
+            Asked::Time => {
+                let _both = self.shared_at(store, place)?;
+                Interval::new(ticks.first as i64, ticks.last as i64)
+            }
+        }
+    }
+
+    // What a gate gives, if its tick is one of the ticks.
+    fn asked_at(&self, store: &Store, asked: Asked, ticks: Ticks, gate: u32) -> Option<Interval>
         requires signal { self.now.x.0 < length store.now.shape.signals }
         requires value { self.now.z.0 < length store.now.shape.vars }
         requires gate { gate < length store.now.shape.grid }
         requires filled { IsSome store.now.box }
-        ensures { result ≡ only_in ticks (met_at store.now.shape self.now.x.0 self.now.z.0 (cells_of store.now.box)) (slice_index store.now.shape.grid gate) }
+        ensures { result ≡ only_in ticks (asked_at store.now.shape self.now.x.0 self.now.z.0 (cells_of store.now.box) asked) (slice_index store.now.shape.grid gate) }
     {
+        store.known();
         let tick = tick_of(store, gate);
-        let _both = self.shared_in(store, ticks, gate)?;
-        Interval::new(tick as i64, tick as i64)
+        if tick < ticks.first || ticks.last < tick {
+            return None;
+        }
+        let here = Ticks {
+            first: tick,
+            last: tick,
+        };
+        self.part(store, asked, here, 2 * gate)
     }
 
-    // The hull of those of the ticks that lie inside a slice at which the signal meets the value: all of them or none.
-    fn met_inside(&self, store: &Store, ticks: Ticks, slice: u32) -> Option<Interval>
+    // The hull of what those of the ticks give that lie inside a slice.
+    fn asked_inside(
+        &self,
+        store: &Store,
+        asked: Asked,
+        ticks: Ticks,
+        slice: u32,
+    ) -> Option<Interval>
         requires signal { self.now.x.0 < length store.now.shape.signals }
         requires value { self.now.z.0 < length store.now.shape.vars }
         requires slice { slice + 1 < length store.now.shape.grid }
         requires filled { IsSome store.now.box }
-        ensures { IsHullOver (only_in ticks (met_at store.now.shape self.now.x.0 self.now.z.0 (cells_of store.now.box))) (slice_index store.now.shape.grid slice + 1) (slice_index store.now.shape.grid (slice + 1)) result }
+        ensures { IsHullOver (only_in ticks (asked_at store.now.shape self.now.x.0 self.now.z.0 (cells_of store.now.box) asked)) (slice_index store.now.shape.grid slice + 1) (slice_index store.now.shape.grid (slice + 1)) result }
     {
         store.known();
         let inner = inside(store, ticks, slice)?;
-        let _both = self.shared_at(store, 2 * slice + 1)?;
-        Interval::new(inner.first as i64, inner.last as i64)
+        self.part(store, asked, inner, 2 * slice + 1)
     }
 
-    /// The hull of the ticks at which the signal meets the value, of some ticks of the clock. It looks at each gate and each envelope once.
-    pub fn met(&self, store: &Store, stretch: Stretch) -> Option<Interval>
+    /// The hull of what some ticks of the clock give of what is asked. It looks at each gate and each envelope once.
+    pub fn over(&self, store: &Store, asked: Asked, stretch: Stretch) -> Option<Interval>
         requires signal { self.now.x.0 < length store.now.shape.signals }
         requires value { self.now.z.0 < length store.now.shape.vars }
         requires covers { Covers store.now.shape.grid stretch.ticks stretch.near }
         requires filled { IsSome store.now.box }
-        ensures { IsHullOver (only_in stretch.ticks (met_at store.now.shape self.now.x.0 self.now.z.0 (cells_of store.now.box))) stretch.ticks.first (stretch.ticks.last + 1) result }
+        ensures { IsHullOver (only_in stretch.ticks (asked_at store.now.shape self.now.x.0 self.now.z.0 (cells_of store.now.box) asked)) stretch.ticks.first (stretch.ticks.last + 1) result }
     {
         store.known();
         let last = stretch.near.last + 1;
         let mut hull = None;
         for slice in stretch.near.first..last {
-            let gate = self.met_at(store, stretch.ticks, slice);
+            let gate = self.asked_at(store, asked, stretch.ticks, slice);
             let until = join(hull, gate);
-            let inner = self.met_inside(store, stretch.ticks, slice);
+            let inner = self.asked_inside(store, asked, stretch.ticks, slice);
             hull = join(until, inner);
         }
-        let end = self.met_at(store, stretch.ticks, last);
+        let end = self.asked_at(store, asked, stretch.ticks, last);
         join(hull, end)
     }
 
