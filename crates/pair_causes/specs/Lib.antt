@@ -2,3 +2,4 @@ pub mod Causes
 pub mod Links
 pub mod Sentences
 pub mod Judged
+pub mod Reading

@@ -9,8 +9,10 @@ mod heads;
 mod judging;
 mod link;
 mod log;
+mod read;
 mod records;
 
 pub use cause::{PairCause, PairFault};
 pub use judging::judge;
 pub use link::Linked;
+pub use read::{Pair, read_both};
