@@ -46,7 +46,7 @@ cause_at-number cause.Link = refl
 cause_at-number cause.LongName = refl
 cause_at-number cause.Joined = refl
 
-numbers-apart : (a b : PairCause) → cause_number a ≡ cause_number b → a ≡ b
+pub numbers-apart : (a b : PairCause) → cause_number a ≡ cause_number b → a ≡ b
 numbers-apart a b e = sym (cause_at-number a) ∙ (ap cause_at e ∙ cause_at-number b)
 
 number-few : (c : PairCause) → cause_number c < 41

@@ -3,3 +3,4 @@ pub mod Links
 pub mod Sentences
 pub mod Judged
 pub mod Reading
+pub mod Laws

@@ -7,6 +7,7 @@
 mod cause;
 mod heads;
 mod judging;
+pub mod laws;
 mod link;
 mod log;
 mod read;
@@ -16,3 +17,6 @@ pub use cause::{PairCause, PairFault};
 pub use judging::judge;
 pub use link::Linked;
 pub use read::{Pair, read_both};
+
+#[cfg(test)]
+mod tests;
