@@ -6,9 +6,9 @@ use Rattle.std.proofs.lemmas.Bool.{cases_eq, ne_eqb}
 use Rattle.std.proofs.lemmas.List.{get_or-set_same, get_or-set_other, get_or_at, get_or_push, get_or_append_left, length-map}
 use Rattle.std.proofs.lemmas.List.Elements.{All-contains, All-push, Contains-append_left, Contains-append_right, Contains-append_cases, Contains-push, Contains-push_cases}
 use Rattle.std.proofs.lemmas.List.Folds.{list_any_more, list_any-append}
-use Rattle.std.proofs.lemmas.List.Sums.{sum_by_push, sum_by-set}
+use Rattle.std.proofs.lemmas.List.Sums.{sum_by-cons, sum_by_push, sum_by-set}
 use Rattle.cell_readers.specs.declared.chain.Entry.{Entry}
-use Rattle.cell_readers.specs.Entries.{Table, no_entry, Falls, chain, IsPlace, AreChained, begins, noted, readers_at, reads_cell, AddsReader, AreReaders, AreAwake}
+use Rattle.cell_readers.specs.Entries.{Table, no_entry, Falls, chain, IsPlace, AreChained, begins, noted, readers_at, reads_cell, times, AddsReader, AreReaders, AreAwake}
 use Rattle.cell_readers.proofs.Chains.{chain-place, chain-push, walk-push, walk-below, Falls-push}
 
 pub same-or-not : (j k : ℕ) → ((j ≡ k) × (nat_eq j k ≡ true)) ⊎ ((j ≡ k → ⊥) × (nat_eq j k ≡ false))
@@ -145,12 +145,33 @@ readers-more-count : (r : Bool) (n m : ℕ) (olds : List ℕ) → length olds �
 readers-more-count true n m olds e = omega (arith, e)
 readers-more-count false n m olds e = omega (arith, e)
 
+count-fresh : (n : ℕ) (ms : List ℕ) → All (λ m. m < n) ms → times n ms ≡ 0
+count-fresh n [] all = refl
+count-fresh n (m ∷ ms) all =
+    omega (
+      arith,
+      sum_by-cons (λ (k : ℕ). cond (nat_eq k n) 1 0) m ms,
+      ap {B = ℕ} (λ (b : Bool). cond b 1 0) (ne_eqb m n (λ e. absurd (omega (arith, all 0 0 (omega arith), e)))),
+      count-fresh n ms (λ k d l. all (suc k) d (omega (arith, l))),
+    )
+
+-- a greater number at the front stands there once
+once-more : (r : Bool) (n m : ℕ) (olds : List ℕ) → All (λ k. k < n) olds → times m olds ≤ 1 → times m (cond r (n ∷ olds) olds) ≤ 1
+once-more false n m olds all h = h
+once-more true n m olds all h = elim (same-or-not n m) [
+  | inl s ↦
+      let none : times m olds ≡ 0 = ap (λ (k : ℕ). times k olds) (sym s.0) ∙ count-fresh n olds all in
+      omega (arith, none, sum_by-cons (λ (k : ℕ). cond (nat_eq k m) 1 0) n olds, ap {B = ℕ} (λ (b : Bool). cond b 1 0) s.1)
+  | inr s ↦ omega (arith, h, sum_by-cons (λ (k : ℕ). cond (nat_eq k m) 1 0) n olds, ap {B = ℕ} (λ (b : Bool). cond b 1 0) s.1)
+]
+
 pub readers-more : (scopes : List (List ℕ)) (n : ℕ) (scope : List ℕ) (old new : List (List ℕ)) → AddsReader old n scope new → ((cell : ℕ) → All (λ m. m < n) (readers_at old cell)) → n ≡ length scopes → AreReaders scopes old → AreReaders (scopes ++ scope ∷ []) new
 readers-more scopes n scope old new adds fresh e were = record {
   exact = exact-more scopes n scope old new adds fresh e were;
   count = λ cell.
       ap length (adds.lists cell) ∙ readers-more-count (reads_cell scope cell) n (count_by (λ (s : List ℕ). reads_cell s cell) scopes) (readers_at old cell) (were.count cell)
       ∙ sym (sum_by_push (λ (s : List ℕ). cond (reads_cell s cell) 1 0) scopes scope);
+  once = λ cell m. omega (arith, ap (times m) (adds.lists cell), once-more (reads_cell scope cell) n m (readers_at old cell) (fresh cell) (were.once cell m));
 }
 
 -- the same, after the fields were written one by one

@@ -1,6 +1,6 @@
 -- Lists of numbers that stand in one table, each entry with the place of the one before it.
-use Rattle.std.specs.Prelude.{◌≡◌, ℕ, zero, suc, ◌<◌, ◌≤◌, ◌↔◌, All, Bool, true, false, ◌||◌, List, [], ◌∷◌, length, cond, count_by, nat_eq, slice_index, slice_index_or}
-use Rattle.std.specs.List.{list_any, Contains}
+use Rattle.std.specs.Prelude.{◌≡◌, ℕ, zero, suc, ◌<◌, ◌≤◌, ◌↔◌, All, Bool, true, false, not, ◌||◌, List, [], ◌∷◌, length, cond, count_by, nat_eq, slice_index, slice_index_or}
+use Rattle.std.specs.List.{list_any, filter, Contains}
 use Rattle.cell_readers.specs.declared.chain.Entry.{Entry}
 
 abbrev pub no_entry : Entry
@@ -45,6 +45,23 @@ begins n (m ∷ ms) = nat_eq m n
 abbrev pub noted : ℕ → List ℕ → List ℕ
 noted n ns = cond (begins n ns) ns (n ∷ ns)
 
+-- how often a number stands in a list
+abbrev pub times : ℕ → List ℕ → ℕ
+times n ms = count_by (λ m. nat_eq m n) ms
+
+-- a list without a number
+abbrev pub without : ℕ → List ℕ → List ℕ
+without n ms = filter (λ m. not (nat_eq m n)) ms
+
+-- from one list to another a number was dropped, once or more or not at all
+pub record Drops (n : ℕ) (old new : List ℕ) : Type 0 where
+  pub others : without n new ≡ without n old
+  pub no_more : times n new ≤ times n old
+
+-- the number in the entry with an index
+abbrev pub number_at : List Entry → ℕ → ℕ
+number_at entries k = (slice_index_or entries k no_entry).number
+
 -- What contracts see: for each cell the numbers of those that read it, how many entries there are, how many contractors, and for how
 -- many entries there is memory.
 pub record Table : Type 0 where
@@ -61,6 +78,7 @@ readers_at readers cell = slice_index_or readers cell []
 pub record AreReaders (scopes readers : List (List ℕ)) : Type 0 where
   pub exact : (cell n : ℕ) → Contains (readers_at readers cell) n ↔ ((n < length scopes) × (reads_cell (slice_index_or scopes n []) cell ≡ true))
   pub count : (cell : ℕ) → length (readers_at readers cell) ≡ count_by (λ scope. reads_cell scope cell) scopes
+  pub once : (cell n : ℕ) → times n (readers_at readers cell) ≤ 1
 
 -- a number comes to the front of the list of each cell that it reads, and the other lists stay
 pub record AddsReader (old : List (List ℕ)) (number : ℕ) (scope : List ℕ) (new : List (List ℕ)) : Type 0 where

@@ -14,7 +14,7 @@ use Rattle.tube_spec.specs.Projection.{Projection, IsMonotone, ReadsOnly}
 use Rattle.tube_store.specs.State.{State, IsStore, no_cells}
 use Rattle.ctc_core.specs.declared.Revised.{Revised}
 use Rattle.ctc_core.specs.declared.Revised.TheVariants.{Same, Narrowed, Empty}
-use Rattle.cell_readers.specs.Entries.{Table, AreReaders, readers_at, reads_cell, is_reader}
+use Rattle.cell_readers.specs.Entries.{Table, AreReaders, readers_at, reads_cell, is_reader, times}
 use Rattle.cell_readers.proofs.Counts.{mark-other}
 use Rattle.ctc_network.specs.Nets.{of_place, fits_place, IsThere, AreThere, IsNetKept, count_there}
 use Rattle.ctc_network.specs.Noting.{Notes}
@@ -140,12 +140,12 @@ count-more {C} (x ∷ cs) c = omega (arith, count-more cs c, sum_by-cons (λ (o 
 -- the table of the readers has more room
 pub covered : (C : Type 0) (projections : C → Shape → List Projection) (scope : C → Shape → List ℕ) (fits : C → Shape → Option (List Span) → Type 0) (store : State) (cs : List (Option C)) (ws : List Bool) (table more : Table) (entries count : ℕ)
     → IsNetKept projections scope fits (record { store = store; contractors = cs; waiting = ws }) table entries count
-    → ((cell : ℕ) → readers_at more.readers cell ≡ readers_at table.readers cell) → more.entries ≡ table.entries → more.contractors ≡ table.contractors
+    → ((cell : ℕ) → readers_at more.readers cell ≡ readers_at table.readers cell) → more.contractors ≡ table.contractors
     → IsNetKept projections scope fits (record { store = store; contractors = cs; waiting = ws }) more entries count
-covered C projections scope fits store cs ws table more entries count held same entries_same contractors_same = record {
+covered C projections scope fits store cs ws table more entries count held same contractors_same = record {
   kept = record {
     state = held.kept.state;
-    table_of = table-covered (map (λ x. of_place scope x store.shape) cs) table more entries held.kept.table_of same entries_same contractors_same;
+    table_of = table-covered (map (λ x. of_place scope x store.shape) cs) table more entries held.kept.table_of same contractors_same;
   };
   there = held.there;
   count = held.count;
@@ -161,13 +161,14 @@ no-readers : (rs : List (List ℕ)) → rs ≡ [] → AreReaders [] rs
 no-readers rs e = subst (λ (ls : List (List ℕ)). AreReaders [] ls) (sym e) record {
   exact = λ cell n. (λ c. let d = subst (λ (xs : List ℕ). Contains xs n) (none-at cell) c in absurd (omega (arith, d.1)), λ h. absurd (omega (arith, h.0)));
   count = λ cell. ap length (none-at cell);
+  once = λ cell n. omega (arith, ap (times n) (none-at cell));
 }
 
 -- the invariant of a net with no cell and no contractor
 pub none-kept : (C : Type 0) (projections : C → Shape → List Projection) (scope : C → Shape → List ℕ) (fits : C → Shape → Option (List Span) → Type 0) (grid : List ℕ) (store : State) (cs : List (Option C)) (ws : List Bool) (table : Table)
-    → store ≡ no_cells grid → IsStore store → cs ≡ [] → ws ≡ [] → table.readers ≡ [] → table.entries ≡ 0 → table.contractors ≡ 0
+    → store ≡ no_cells grid → IsStore store → cs ≡ [] → ws ≡ [] → table.readers ≡ [] → table.contractors ≡ 0
     → IsNetKept projections scope fits (record { store = store; contractors = cs; waiting = ws }) table 0 0
-none-kept C projections scope fits grid store cs ws table e is none quiet readers entries contractors =
+none-kept C projections scope fits grid store cs ws table e is none quiet readers contractors =
     subst (λ (xs : List (Option C)). IsNetKept projections scope fits (record { store = store; contractors = xs; waiting = ws }) table 0 0) (sym none)
     (subst (λ (vs : List Bool). IsNetKept projections scope fits (record { store = store; contractors = []; waiting = vs }) table 0 0) (sym quiet) record {
       kept = record {
@@ -185,7 +186,6 @@ none-kept C projections scope fits grid store cs ws table e is none quiet reader
         table_of = record {
           readers = no-readers table.readers readers;
           contractors = contractors;
-          few = omega (arith, entries);
           sum = refl;
         };
       };

@@ -85,9 +85,9 @@ module _ (C : Type 0) (projections : C → Shape → List Projection) (scope : C
   -- with one contractor more, which waits
   pub kept-added : (store : State) (cs : List C) (ws : List Bool) (table table' : Table) (entries entries' : ℕ) (c : C) → IsKept projections scope fits (record { store = store; contractors = cs; waiting = ws }) table entries
       → length cs < 4000000000 → fits c store.shape store.box → entries' ≤ 20000000 → entries' ≡ entries + length (scope c store.shape)
-      → AreReaders (map (λ x. scope x store.shape) cs ++ scope c store.shape ∷ []) table'.readers → table'.contractors ≡ table.contractors + 1 → table'.entries ≤ table.entries + length (scope c store.shape)
+      → AreReaders (map (λ x. scope x store.shape) cs ++ scope c store.shape ∷ []) table'.readers → table'.contractors ≡ table.contractors + 1
       → IsKept projections scope fits (record { store = store; contractors = cs ++ c ∷ []; waiting = ws ++ true ∷ [] }) table' entries'
-  kept-added store cs ws table table' entries entries' c kept few fit room sum readers count more = record {
+  kept-added store cs ws table table' entries entries' c kept few fit room sum readers count = record {
     state = record {
       net = record {
         store = kept.state.net.store;
@@ -102,7 +102,6 @@ module _ (C : Type 0) (projections : C → Shape → List Projection) (scope : C
     table_of = record {
       readers = subst (λ (scopes : List (List ℕ)). AreReaders scopes table'.readers) (sym scopes) readers;
       contractors = omega (arith, count, kept.table_of.contractors, length_push cs c, length-map cs (λ x. scope x store.shape), length-map (cs ++ c ∷ []) (λ x. scope x store.shape));
-      few = omega (arith, more, kept.table_of.few, sum);
       sum = all ∙ sym (sum-scopes (λ x. scope x store.shape) (cs ++ c ∷ []));
     };
   }

@@ -1,11 +1,16 @@
+pub mod Among
 pub mod Ends
 pub mod Events
 pub mod Firing
 pub mod Holes
 pub mod Keeping
 pub mod Marks
+pub mod Naming
+pub mod Removing
 pub mod Replaying
+pub mod Resets
 pub mod Resettling
+pub mod Restoring
 pub mod Runs
 pub mod Schedules
 pub mod Waking

@@ -9,7 +9,7 @@ use Rattle.std.proofs.lemmas.Option.{get_or_from_slice_get, slice_get-get_or, sl
 use Rattle.std.proofs.lemmas.Map.Views.{list_any-from_Contains, Contains-from_any}
 use Rattle.tube_spec.specs.Span.{Span}
 use Rattle.tube_spec.specs.Shape.{Shape}
-use Rattle.cell_readers.specs.Entries.{Table, AreReaders, WakesReaders, readers_at, reads_cell, is_reader}
+use Rattle.cell_readers.specs.Entries.{Table, AreReaders, WakesReaders, readers_at, reads_cell, is_reader, times}
 use Rattle.cell_readers.specs.Waking.{AreWoken}
 use Rattle.cell_readers.proofs.Counts.{mark-here, mark-other}
 use Rattle.cell_readers.proofs.Kept.{none-read}
@@ -142,12 +142,11 @@ module _ {C : Type 0} (scope : C → Shape → List ℕ) (s : Shape) (cs : List 
     }
 
 -- what holds of a table where nothing of it changed but its room
-pub table-covered : (scopes : List (List ℕ)) (old new : Table) (entries : ℕ) → IsTableOf scopes old entries → ((cell : ℕ) → readers_at new.readers cell ≡ readers_at old.readers cell) → new.entries ≡ old.entries → new.contractors ≡ old.contractors
+pub table-covered : (scopes : List (List ℕ)) (old new : Table) (entries : ℕ) → IsTableOf scopes old entries → ((cell : ℕ) → readers_at new.readers cell ≡ readers_at old.readers cell) → new.contractors ≡ old.contractors
     → IsTableOf scopes new entries
-table-covered scopes old new entries t same more count = record {
+table-covered scopes old new entries t same count = record {
   readers = same-readers;
   contractors = count ∙ t.contractors;
-  few = omega (arith, more, t.few);
   sum = t.sum;
 }
   where
@@ -158,6 +157,7 @@ table-covered scopes old new entries t same more count = record {
         λ h. subst (λ (xs : List ℕ). Contains xs n) (sym (same cell)) ((t.readers.exact cell n).1 h),
       );
       count = λ cell. ap length (same cell) ∙ t.readers.count cell;
+      once = λ cell n. omega (arith, ap (times n) (same cell), t.readers.once cell n);
     }
 
 -- how many of the scopes name a cell is how many of the contractors read it

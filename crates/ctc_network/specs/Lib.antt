@@ -3,3 +3,4 @@ pub mod Noting
 pub mod Schedule
 pub mod Sections
 pub mod Settling
+pub mod Resetting

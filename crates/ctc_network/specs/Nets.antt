@@ -85,7 +85,6 @@ pub record IsSettlable {C : Type 0} (projections : C → Shape → List Projecti
 pub record IsTableOf (scopes : List (List ℕ)) (table : Table) (entries : ℕ) : Type 0 where
   pub readers : AreReaders scopes table.readers
   pub contractors : table.contractors ≡ length scopes
-  pub few : table.entries ≤ entries
   pub sum : entries ≡ sum_by (λ scope. length scope) scopes
 
 -- The invariant of the places, with the table of the readers of its cells, and how many cells are read, those of each contractor added up.

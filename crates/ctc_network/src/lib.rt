@@ -9,6 +9,9 @@
 //! A contractor waits from its addition on, and rests where it was fired and left the box. Where a cell is narrowed, the contractors that
 //! read it wait again, and so does the one that narrowed it. So whoever rests leaves the box, and the steps are bounded by what narrows.
 //!
+//! A contractor can be taken out, and cells be given back wider intervals: [`Net::remove`] and [`Net::reset`]. Whoever reads or writes one of
+//! these cells waits then, so that settling goes on from what the others still hold.
+//!
 //! Networks of contractors are those of Codac (Rohou, Jaulin and others). That this one goes on to the exact greatest fixpoint, or until
 //! a budget of width is spent, is a rule of its own.
 #![tactic(auto)]
@@ -18,7 +21,9 @@ mod laws;
 mod net;
 mod noting;
 mod places;
+mod rousing;
 mod turns;
+mod using;
 
 pub use answers::{AddFault, CtcId, Order, Settled};
 pub use laws::{event_law, schedule_law, section_law};

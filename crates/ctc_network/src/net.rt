@@ -1,20 +1,24 @@
 //! The net: its calls, and the loop of settling.
 
-ghost use Rattle.std.specs.Prelude.{◌≡◌, ◌+◌, ◌-◌, ◌*◌, ◌<◌, ◌≤◌, ◌↔◌, [], ◌∷◌, ◌++◌, ℕ, Some, true, false, IsTrue, IsFalse, IsSome, IsNone, IfSome, OnOk, OnErr, IfOk, IsErrOf, length, All, count_by, slice_get, slice_set, flat_map};
+ghost use Rattle.std.specs.Prelude.{◌≡◌, ◌+◌, ◌-◌, ◌*◌, ◌<◌, ◌≤◌, ◌↔◌, [], ◌∷◌, ◌++◌, ℕ, Some, None, true, false, IsTrue, IsFalse, IsSome, IsSomeAnd, IsNone, IfSome, OnOk, OnErr, IfOk, IsErrOf, List, length, map, All, count_by, slice_get, slice_set, flat_map};
+ghost use Rattle.std.specs.List.Sorted.{IsStrictlyIncreasing};
 ghost use Rattle.tube_spec.specs.Limits.{greatest_bound, most_cells, most_reads};
-ghost use Rattle.tube_spec.specs.Span.{IsBounded};
+ghost use Rattle.tube_spec.specs.Span.{Span, IsBounded};
 ghost use Rattle.tube_spec.specs.Box.{measure_of};
 ghost use Rattle.tube_spec.specs.Owner.{SignalIn, VariableIn};
 ghost use Rattle.tube_spec.specs.Fixpoint.{IsFixpoint};
 ghost use Rattle.tube_store.specs.State.{State, state_with};
+ghost use Rattle.tube_store.specs.Resets.{cell_in};
 ghost use Rattle.ctc_core.specs.Answers.{MatchRevised};
 ghost use Rattle.cell_readers.specs.Costs.{lost_cost, potential};
 ghost use Rattle.ctc_network.specs.Nets.{NetState, ArePlaces, IsNet, IsSettlable, IsThere, of_place, fits_place, count_there, no_net, entries_of, readers_of};
+ghost use Rattle.ctc_network.specs.Resetting.{IsResetTo, IsRoused};
 ghost use Rattle.ctc_network.specs.Settling.{Fires, IsWoken, IsNarrowedBy, SettlesAs, StillNarrows, contractors_at};
 
 use crate::answers::{AddFault, CtcId, Order, Settled};
 use crate::noting::note;
 use crate::places::{revise, still, there};
+use crate::rousing::rouse;
 use cell_readers::Readers;
 use ctc_core::{Revised, start};
 use ctc_parts::Parted;
@@ -219,6 +223,50 @@ impl<C: Parted + Drop> Net<C> {
         self.entries += reads;
         self.count += 1;
         Ok(CtcId(number))
+    }
+
+    /// Takes a contractor out, or says that none stands under the number, which is not given again. The box stays, and so do all other
+    /// contractors, and who of them waits. It takes no memory.
+    pub fn remove(&mut self, id: CtcId) -> Option<C>
+        ensures none { IsNone result → (IsThere self.old.contractors id.0 → ⊥) × (self.new ≡ self.old) }
+        ensures out { IfSome result (λ c. slice_get self.old.contractors id.0 ≡ Some (Some c)) }
+        ensures left { IsSome result → self.new ≡ record self.old { contractors = slice_set self.old.contractors id.0 None; waiting = slice_set self.old.waiting id.0 false } }
+    {
+        if !self.has(id) {
+            return None;
+        }
+        let c = self.contractors[id.0 as usize].take()?;
+        self.readers.remove(&c, id.0, &self.store);
+        self.entries -= c.reads(&self.store);
+        self.count -= 1;
+        self.waiting.rest(id.0);
+        Some(c)
+    }
+
+    /// Gives each cell of a list an interval of its own, and so takes back what was narrowed. All other cells stay. Each contractor that reads
+    /// or writes one of these cells waits then, and so does who waited before. The empty box comes back only as a whole. It takes no
+    /// memory.
+    pub fn reset(&mut self, cells: &[(CellId, Interval)])
+        requires named { All (λ r. cell_in r < self.old.store.shape.cells) cells.now }
+        requires rising { IsStrictlyIncreasing (map cell_in cells.now) }
+        requires bounded { All (λ r. IsBounded greatest_bound r.1) cells.now }
+        requires whole { IsNone self.old.store.box → length cells.now ≡ self.old.store.shape.cells }
+        requires fits { (ys : List Span) → length ys ≡ self.old.store.shape.cells → IsResetTo cells.now self.old.store.box ys → All (λ c. fits_place C.fits c self.old.store.shape (Some ys)) self.old.contractors }
+        ensures contractors { self.new.contractors ≡ self.old.contractors }
+        ensures shape { self.new.store.shape ≡ self.old.store.shape }
+        ensures filled { IsSomeAnd self.new.store.box (IsResetTo cells.now self.old.store.box) }
+        ensures untouched { self.new.store.touched ≡ [] }
+        ensures waiting { IsRoused (of_place C.projections) (of_place C.scope) self.old.store.shape self.old.contractors cells.now self.old.waiting self.new.waiting }
+    {
+        self.store.reset(cells);
+        self.store.known();
+        rouse(
+            cells,
+            &self.contractors,
+            &self.store,
+            &mut self.waiting,
+            &mut self.marks,
+        );
     }
 
     /// Fires a contractor once, whether it waits or not. Where the box stayed, it does not wait afterwards. Where cells were narrowed,

@@ -1,4 +1,4 @@
-//! A network's orders and turns: contractors of the test write down who is fired, and how often. All expected numbers were worked out from the
+//! A network's orders, turns and retractions: contractors of the test write down who is fired, and how often. All expected numbers were worked out from the
 //! formulas, and none was taken from the program.
 #![tactic(auto)]
 
@@ -6,5 +6,7 @@
 mod orders;
 #[cfg(test)]
 mod relations;
+#[cfg(test)]
+mod retraction;
 #[cfg(test)]
 mod turns;

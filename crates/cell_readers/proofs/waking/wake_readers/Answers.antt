@@ -1,4 +1,4 @@
-use Rattle.std.proofs.Common.{◌<◌, ◌≤◌, ℕ, List, All, length, ◌++◌, ◌∷◌, [], sym, ap, subst, ◌∙◌, append_assoc, arith}
+use Rattle.std.proofs.Common.{◌<◌, ℕ, List, All, length, ◌++◌, ◌∷◌, [], sym, ap, subst, ◌∙◌, append_assoc, arith}
 use Rattle.cell_readers.specs.Entries.{readers_at}
 use Rattle.cell_readers.proofs.Noted.{woken-more, met-next}
 use Rattle.cell_readers.proofs.waking.wake_readers.Goals as goal

@@ -1,4 +1,4 @@
-use Rattle.std.proofs.Common.{◌≡◌, ◌<◌, ◌≤◌, ℕ, All, rules, arith, ◌∙◌, ap, subst, refl, take, map, slice_index, length}
+use Rattle.std.proofs.Common.{◌<◌, ◌≤◌, ℕ, All, arith, ◌∙◌, subst, take, map, slice_index, length}
 use Rattle.std.proofs.lemmas.List.{take_all}
 use Rattle.cell_readers.specs.Entries.{Table, AddsReader, chain, readers_at}
 use Rattle.cell_readers.proofs.Noted.{lists-more, adds-all, begins-fresh, numbers-below, readers-more}

@@ -17,3 +17,8 @@ pub returns-in_err-lengthen-clause-same : goal.returns-in_err-lengthen-clause-sa
 returns-in_err-lengthen-clause-same c cell =
     let r = c.self.inside in
     covered r.entries.items r.entries.items r.heads.items c.lengthen.new.list.items c.args.self.now cell refl (c.lengthen.ensures.same cell) (ap (λ (t : Table). t.readers) c.self.view_is)
+
+pub returns-then-entries-len-clause-same : goal.returns-then-entries-len-clause-same
+returns-then-entries-len-clause-same c cell =
+    let r = c.self.inside in
+    covered r.entries.items r.entries.items r.heads.items c.lengthen.new.list.items c.args.self.now cell refl (c.lengthen.ensures.same cell) (ap (λ (t : Table). t.readers) c.self.view_is)

@@ -1,5 +1,5 @@
-use Rattle.std.proofs.Common.{◌≡◌, ◌<◌, ◌≤◌, ◌+◌, arith, length, ℕ, List, All, sym, ap, subst, ◌∙◌, slice_index}
-use Rattle.cell_readers.specs.Entries.{Table, chain}
+use Rattle.std.proofs.Common.{◌≡◌, ◌<◌, ◌≤◌, arith, length, ℕ, List, All, sym, ap, subst, ◌∙◌, slice_index}
+use Rattle.cell_readers.specs.Entries.{Table}
 use Rattle.cell_readers.proofs.Chains.{walk-length}
 use Rattle.cell_readers.proofs.Noted.{numbers-below, head-list}
 use Rattle.cell_readers.proofs.readers.Readers.of.Goals as goal

@@ -7,6 +7,6 @@ invariant_of-result g c =
     let K = g.C.Contractor in
     record {
       net = none-kept g.row.C.Denot K.projections K.scope K.fits c.args.grid c.new-store.result c.new.result.items c.new-2.result c.new-4.result c.new-store.ensures c.known.ensures c.new.ensures.items c.new-2.ensures c.new-4.ensures.readers
-          c.new-4.ensures.entries c.new-4.ensures.contractors;
+          c.new-4.ensures.contractors;
       marks = marks-none g.C.Parted.parts g.C.Parted.part c.new-store.result c.new.result.items c.new-3.result.items c.new.ensures.items c.new-3.ensures.items;
     }
