@@ -1,7 +1,8 @@
 //! A reader of records.
 
-ghost use Rattle.std.specs.Prelude.{◌≡◌, ℕ, List, [], ◌∷◌, IfOk, OnErr, ⊤};
+ghost use Rattle.std.specs.Prelude.{◌≡◌, ℕ, List, [], ◌∷◌, IfOk, OnOk, OnErr, true, ⊤};
 ghost use Rattle.std.specs.Bool.{MatchBool};
+ghost use Rattle.csv.specs.Reading.{ChangesHeaders, Ready, names_headers};
 ghost use Rattle.csv.specs.Records.{fields_of};
 ghost use Rattle.csv_rows.specs.Records.{Record, records_of};
 
@@ -15,6 +16,8 @@ use tube_io::NoMemory;
 #[derive(Drop)]
 pub struct Rows<'a> {
     reader: Reader<&'a [u8]>,
+    alloc: Global,
+    is_begun: bool,
     is_done: bool,
 }
 
@@ -27,7 +30,7 @@ impl<'a> Model for Rows<'a> {
 
     ghost view = { λ r. rows_unless r.is_done r.reader };
 
-    ghost invariant = { λ r. IsKept r.is_done r.reader };
+    ghost invariant = { λ r. IsKept r.is_done r.is_begun r.reader };
 }
 
 impl<'a> Rows<'a> {
@@ -36,11 +39,12 @@ impl<'a> Rows<'a> {
         ensures { result ≡ records_of bytes.entry.now }
     {
         let reader = ReaderBuilder::new()
-            .has_headers(false)
             .flexible(true)
             .from_reader(alloc, bytes);
         Rows {
             reader,
+            alloc,
+            is_begun: false,
             is_done: false,
         }
     }
@@ -55,6 +59,13 @@ impl<'a> Rows<'a> {
         if self.is_done {
             return Ok(false);
         }
+        if !self.is_begun {
+            if name_no_columns(self.alloc, &mut self.reader).is_err() {
+                self.is_done = true;
+                return Err(NoMemory);
+            }
+            self.is_begun = true;
+        }
         match self.reader.read_byte_record(row) {
             Ok(true) => return Ok(true),
             Ok(false) => {
@@ -66,5 +77,17 @@ impl<'a> Rows<'a> {
                 return Err(NoMemory);
             }
         }
+    }
+}
+
+/// Gives the reader a header row of no columns before it reads, so that each row of the text is a record. Left alone, it would keep two
+/// copies of the first record, whatever its length.
+fn name_no_columns(alloc: Global, reader: &mut Reader<&[u8]>) -> Result<(), NoMemory>
+    requires { names_headers reader.old ≡ true }
+    ensures { OnOk result (ChangesHeaders reader.old reader.new × Ready reader.new) }
+{
+    match reader.set_byte_headers(ByteRecord::new(alloc)) {
+        Ok(()) => Ok(()),
+        Err(_) => Err(NoMemory),
     }
 }
