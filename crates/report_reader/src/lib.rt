@@ -7,7 +7,8 @@ pub mod laws;
 mod lines;
 pub mod read;
 pub mod section;
-mod words;
+pub mod words;
 
 pub use read::read_section;
 pub use section::{Line, Lines, Section, SectionFault};
+pub use words::cut;

@@ -12,7 +12,7 @@ use log_spelling::is_name;
 use log_spelling::number::is_digit;
 
 /// A text before and after the first place of a byte, if it is there.
-pub(crate) fn cut(text: &[u8], at: u8) -> Option<(&[u8], &[u8])>
+pub fn cut(text: &[u8], at: u8) -> Option<(&[u8], &[u8])>
     ensures { MatchOption result (Lacks at text.now) (λ parts. IsCut at text.now parts.0.now parts.1.now) }
 {
     for (i, b) in text.iter().enumerate() {

@@ -1,0 +1,10 @@
+pub mod Fronts
+pub mod Numbers
+pub mod Lists
+pub mod Rows
+pub mod Findings
+pub mod SetParts
+pub mod SetLists
+pub mod SectionParts
+pub mod QueryParts
+pub mod BundleParts
