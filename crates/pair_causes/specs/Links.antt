@@ -1,13 +1,13 @@
 -- What a link says of two missions: two positions, each at a tick, and how far they lie apart.
-use Rattle.std.specs.Prelude.{ℕ, ◌==◌, not, nat_le, Bool, true, false, List, [], ◌∷◌, Option, Some, None, option_map, flat_map, ℤ, pos, negsuc, bytes_eq, if◌then◌else◌}
+use Rattle.std.specs.Prelude.{ℕ, ◌==◌, not, nat_le, Bool, true, false, List, Option, Some, None, option_map, flat_map, ℤ, pos, negsuc, bytes_eq, if◌then◌else◌}
 use Rattle.std.specs.List.{position}
 use Rattle.tube_spec.specs.Span.{Span, add_of, point}
 use Rattle.slice_gates.specs.Clock.{ticks_of}
 use Rattle.tube_store.specs.declared.SignalId.{SignalId}
 use Rattle.log_fields.specs.Fields.{are_radii}
 use Rattle.mission_items.specs.declared.item.Item.{Item}
-use Rattle.mission_items.specs.declared.item.Item.TheVariants as item
 use Rattle.mission_items.specs.declared.mission.Mission.{Mission}
+use Rattle.log_text.specs.NameTexts.{signal_text}
 use Rattle.pair_form.specs.Forms.{LinkForm}
 use Rattle.pair_causes.specs.declared.link.Linked.{Linked}
 
@@ -23,13 +23,9 @@ provided false = None
 
 -- ---- words in the places of names
 
-abbrev pub signal_name : Item → List (List ℕ)
-signal_name (item.Signal name range) = name ∷ []
-signal_name i = []
-
--- in order of declaration
+-- the names of a log's signals, in order of declaration
 abbrev pub signal_names : List Item → List (List ℕ)
-signal_names items = flat_map signal_name items
+signal_names items = flat_map signal_text items
 
 -- the signal whose name is this word
 abbrev pub signal_called : List (List ℕ) → List ℕ → Option SignalId

@@ -2,7 +2,8 @@
 
 ghost use Rattle.std.specs.Prelude.{◌≡◌, ◌<◌, ◌^◌, IfOk, IfSome, bytes_eq, length, map, option_map, option_to_list};
 ghost use Rattle.std.specs.List.{position};
-ghost use Rattle.pair_causes.specs.Links.{signal_called, signal_name, signal_names, signals_called};
+ghost use Rattle.log_text.specs.NameTexts.{signal_text};
+ghost use Rattle.pair_causes.specs.Links.{signal_called, signal_names, signals_called};
 
 use mission_items::{Item, Mission};
 use pair_form::Place;
@@ -35,7 +36,7 @@ impl<'a> Model for Log<'a> {
 
 // The name of the signal that a record declares.
 fn name_of(item: &Item) -> Option<&[u8]>
-    ensures { option_to_list (option_map (λ n. n.now) result) ≡ signal_name item.now }
+    ensures { option_to_list (option_map (λ n. n.now) result) ≡ signal_text item.now }
 {
     match item {
         Item::Signal { name, .. } => Some(name.bytes()),
