@@ -2,3 +2,4 @@ pub mod Places
 pub mod Names
 pub mod Lowest
 pub mod Reading
+pub mod Known

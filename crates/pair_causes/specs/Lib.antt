@@ -4,3 +4,4 @@ pub mod Sentences
 pub mod Judged
 pub mod Reading
 pub mod Laws
+pub mod Facts
