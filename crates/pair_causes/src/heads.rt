@@ -8,10 +8,7 @@ ghost use Rattle.pair_causes.specs.Sentences.{have_one_head, offset_said};
 
 use int_interval::Interval;
 use mission_items::Mission;
-use slice_gates::Grid;
-
-// The greatest offset, either way, in ticks.
-const MOST_TICKS_AHEAD: i64 = 100_000;
+use slice_gates::{Grid, MOST_TICKS};
 
 // How many ticks the greatest offset may be above the least.
 const MOST_TICKS_APART: i64 = 2_000;
@@ -41,14 +38,15 @@ pub(crate) fn have_one_head(first: &Mission, second: &Mission) -> bool
         && have_same_cuts(&first.cuts, &second.cuts)
 }
 
-/// The numbers of ticks that the second clock may be ahead, if their bounds are in order, near and small.
+/// The numbers of ticks that the second clock may be ahead, if their bounds are in order, near, and no more ticks than a clock may have.
 pub(crate) fn offset_of(bounds: (i64, i64)) -> Option<Interval>
     ensures value { result ≡ offset_said bounds }
     ensures near { IfSome result (IsBounded most_ticks) }
 {
     let (low, high) = bounds;
     let offset = Interval::new(low, high)?;
-    if low < -MOST_TICKS_AHEAD || high > MOST_TICKS_AHEAD || high - low > MOST_TICKS_APART {
+    let most = i64::from(MOST_TICKS);
+    if low < -most || high > most || high - low > MOST_TICKS_APART {
         return None;
     }
     Some(offset)
