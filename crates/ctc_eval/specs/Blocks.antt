@@ -22,8 +22,8 @@ block_projections s b = map (kept_projection s b) (range_with_len 0 b.count)
 pub record BlockFits (s : Shape) (b : Block) : Type 0 where
   pub signal : b.x.0 < length s.signals
   pub gates : b.first + b.count ≤ length s.grid
-  pub few : b.count ≤ 16
-  pub room : length b.hulls ≡ 17
+  pub few : b.count ≤ 64
+  pub room : length b.hulls ≡ 65
 
 -- what the signal may come to at a gate from the ticks of the time
 abbrev pub IsFromAll : Shape → ℕ → ℕ → ℕ → List Span → Ticks → ℕ → Option Span → Type 0

@@ -23,7 +23,7 @@ pub fn given_of(hull: Option<Interval>) -> Given
     }
 }
 
-/// Gates of a signal one after another, at most sixteen, and what is kept of each: what its formula gives in one box.
+/// Gates of a signal one after another, at most sixty-four, and what is kept of each: what its formula gives in one box.
 #[derive(Clone, Copy)]
 pub struct Block {
     /// The signal.
@@ -33,7 +33,7 @@ pub struct Block {
     /// How many gates there are.
     pub count: u32,
     /// What is kept of each.
-    pub hulls: [Option<Interval>; 17],
+    pub hulls: [Option<Interval>; 65],
 }
 
 impl Formulas for Block {
@@ -72,20 +72,21 @@ fn hulls_back(
     stretch: Stretch,
     first: u32,
     count: u32,
-) -> [Option<Interval>; 17]
+    hulls: &mut [Option<Interval>],
+)
     requires signal { sweep.now.x.0 < length store.now.shape.signals }
     requires rate { rate.0 < length store.now.shape.signals }
     requires value { sweep.now.z.0 < length store.now.shape.vars }
     requires covers { Covers store.now.shape.grid stretch.ticks stretch.near }
     requires some { 0 < count }
-    requires few { count ≤ 16 }
+    requires few { count ≤ 64 }
     requires gates { first + count ≤ stretch.near.last + 2 }
     requires filled { IsSome store.now.box }
-    ensures room { length result ≡ 17 }
-    ensures back { (k : ℕ) → k < count → IsFromOn store.now.shape sweep.now.x.0 rate.0 sweep.now.z.0 (cells_of store.now.box) stretch.ticks (slice_index store.now.shape.grid (first + k)) (slice_index_or result k None) }
+    requires room { length hulls.old ≡ 65 }
+    ensures room { length hulls.new ≡ 65 }
+    ensures back { (k : ℕ) → k < count → IsFromOn store.now.shape sweep.now.x.0 rate.0 sweep.now.z.0 (cells_of store.now.box) stretch.ticks (slice_index store.now.shape.grid (first + k)) (slice_index_or hulls.new k None) }
 {
     store.known();
-    let mut hulls: [Option<Interval>; 17] = [None; 17];
     let mut at = stretch.near.last + 1;
     hulls[count as usize] = sweep.shared_in(store, stretch.ticks, at);
     for j in (0..count).rev() {
@@ -99,7 +100,6 @@ fn hulls_back(
         );
         at = first + j;
     }
-    hulls
 }
 
 /// What the signal may come to at each gate of a block, by its rate: back through the block, and then on. The last entry has what the ticks
@@ -111,27 +111,28 @@ pub fn hulls_whole(
     stretch: Stretch,
     first: u32,
     count: u32,
-) -> [Option<Interval>; 17]
+    hulls: &mut [Option<Interval>],
+)
     requires signal { sweep.now.x.0 < length store.now.shape.signals }
     requires rate { rate.0 < length store.now.shape.signals }
     requires value { sweep.now.z.0 < length store.now.shape.vars }
     requires covers { Covers store.now.shape.grid stretch.ticks stretch.near }
     requires some { 0 < count }
-    requires few { count ≤ 16 }
+    requires few { count ≤ 64 }
     requires start { stretch.near.first ≤ first }
     requires gates { first + count ≤ stretch.near.last + 2 }
     requires filled { IsSome store.now.box }
-    ensures room { length result ≡ 17 }
-    ensures whole { (k : ℕ) → k < count → IsFromAll store.now.shape sweep.now.x.0 rate.0 sweep.now.z.0 (cells_of store.now.box) stretch.ticks (first + k) (slice_index_or result k None) }
+    requires room { length hulls.old ≡ 65 }
+    ensures room { length hulls.new ≡ 65 }
+    ensures whole { (k : ℕ) → k < count → IsFromAll store.now.shape sweep.now.x.0 rate.0 sweep.now.z.0 (cells_of store.now.box) stretch.ticks (first + k) (slice_index_or hulls.new k None) }
 {
     store.known();
-    let mut hulls = hulls_back(sweep, store, rate, stretch, first, count);
+    hulls_back(sweep, store, rate, stretch, first, count, hulls);
     let mut at = stretch.near.first;
-    hulls[16] = None;
+    hulls[64] = None;
     for j in 0..count {
-        hulls[16] = sweep.carried_on(store, rate, stretch.ticks, at, first + j, hulls[16]);
-        hulls[j as usize] = join(hulls[16], hulls[j as usize]);
+        hulls[64] = sweep.carried_on(store, rate, stretch.ticks, at, first + j, hulls[64]);
+        hulls[j as usize] = join(hulls[64], hulls[j as usize]);
         at = first + j;
     }
-    hulls
 }

@@ -233,11 +233,12 @@ impl EvalCtc {
         requires filled { IsSome store.now.box }
         ensures { narrowing_given result ≡ narrowing_of (reached_hull store.now.shape self.now.x.0 rate.0 self.now.t.0 self.now.z.0 self.now.declared gate (cells_of store.now.box)) }
     {
-        let hulls = self.hulls(store, near, rate, gate, 1);
+        let mut hulls: [Option<Interval>; 65] = [None; 65];
+        self.hulls(store, near, rate, gate, 1, &mut hulls);
         given_of(hulls[0])
     }
 
-    // What the formulas of some gates give by the rate, at most sixteen one after another.
+    // What the formulas of some gates give by the rate, at most sixty-four one after another.
     fn hulls(
         &self,
         store: &Store,
@@ -245,24 +246,27 @@ impl EvalCtc {
         rate: SignalId,
         first: u32,
         count: u32,
-    ) -> [Option<Interval>; 17]
+        hulls: &mut [Option<Interval>],
+    )
         requires found { IsFound store.now.shape.grid self.now.declared near }
         requires fits { EvalFits store.now.shape self.now.x.0 (rate_of self.now.rate) self.now.t.0 self.now.z.0 }
         requires rate { rate.0 < length store.now.shape.signals }
         requires some { 0 < count }
-        requires few { count ≤ 16 }
+        requires few { count ≤ 64 }
         requires gates { IfSome near (λ near. (near.first ≤ first) × (first + count ≤ near.last + 2)) }
         requires filled { IsSome store.now.box }
-        ensures room { length result ≡ 17 }
-        ensures value { (k : ℕ) → k < count → slice_index_or result k None ≡ reached_hull store.now.shape self.now.x.0 rate.0 self.now.t.0 self.now.z.0 self.now.declared (first + k) (cells_of store.now.box) }
+        requires room { length hulls.old ≡ 65 }
+        requires blank { (k : ℕ) → slice_index_or hulls.old k None ≡ None }
+        ensures room { length hulls.new ≡ 65 }
+        ensures value { (k : ℕ) → k < count → slice_index_or hulls.new k None ≡ reached_hull store.now.shape self.now.x.0 rate.0 self.now.t.0 self.now.z.0 self.now.declared (first + k) (cells_of store.now.box) }
     {
         let sweep = Sweep {
             x: self.x,
             z: self.z,
         };
         match self.stretch(store, near) {
-            Some(stretch) => hulls_whole(&sweep, store, rate, stretch, first, count),
-            None => [None; 17],
+            Some(stretch) => hulls_whole(&sweep, store, rate, stretch, first, count, hulls),
+            None => {}
         }
     }
 
@@ -279,7 +283,7 @@ impl EvalCtc {
         requires fits { EvalFits store.old.shape self.now.x.0 (rate_of self.now.rate) self.now.t.0 self.now.z.0 }
         requires rate { rate.0 < length store.old.shape.signals }
         requires some { 0 < count }
-        requires few { count ≤ 16 }
+        requires few { count ≤ 64 }
         requires gates { IfSome near (λ near. (near.first ≤ first) × (first + count ≤ near.last + 2)) }
         requires named { first + count ≤ length store.old.shape.grid }
         ensures { Revises (map (reached_projection store.old.shape self.now.x.0 rate.0 self.now.t.0 self.now.z.0 self.now.declared) (range_with_len first count)) store.old store.new result }
@@ -288,13 +292,13 @@ impl EvalCtc {
         if store.is_empty() {
             return Revised::Empty;
         }
-        let hulls = self.hulls(store, near, rate, first, count);
-        let block = Block {
+        let mut block = Block {
             x: self.x,
             first,
             count,
-            hulls,
+            hulls: [None; 65],
         };
+        self.hulls(store, near, rate, first, count, &mut block.hulls);
         revise_by_formulas(&block, store)
     }
 
@@ -311,7 +315,7 @@ impl EvalCtc {
         requires fits { EvalFits store.now.shape self.now.x.0 (rate_of self.now.rate) self.now.t.0 self.now.z.0 }
         requires rate { rate.0 < length store.now.shape.signals }
         requires some { 0 < count }
-        requires few { count ≤ 16 }
+        requires few { count ≤ 64 }
         requires gates { IfSome near (λ near. (near.first ≤ first) × (first + count ≤ near.last + 2)) }
         requires named { first + count ≤ length store.now.shape.grid }
         ensures { IsMoved (map (reached_projection store.now.shape self.now.x.0 rate.0 self.now.t.0 self.now.z.0 self.now.declared) (range_with_len first count)) store.now.box result }
@@ -319,13 +323,13 @@ impl EvalCtc {
         if store.is_empty() {
             return false;
         }
-        let hulls = self.hulls(store, near, rate, first, count);
-        let block = Block {
+        let mut block = Block {
             x: self.x,
             first,
             count,
-            hulls,
+            hulls: [None; 65],
         };
+        self.hulls(store, near, rate, first, count, &mut block.hulls);
         still_by_formulas(&block, store)
     }
 
@@ -341,7 +345,7 @@ impl EvalCtc {
         let count = gates(near);
         let mut done = 0;
         while done < count {
-            let here = (count - done).min(16);
+            let here = (count - done).min(64);
             if self.moves_block(store, near, rate, from + done, here) {
                 return true;
             }
@@ -378,7 +382,7 @@ impl EvalCtc {
         }
     }
 
-    // Fires the projections of each gate by the rate, sixteen gates at a time.
+    // Fires the projections of each gate by the rate, sixty-four gates at a time.
     fn revise_reached(&self, store: &mut Store, rate: SignalId, near: Option<Near>) -> Revised
         requires fits { EvalFits store.old.shape self.now.x.0 (rate_of self.now.rate) self.now.t.0 self.now.z.0 }
         requires rate { rate.0 < length store.old.shape.signals }
@@ -390,7 +394,7 @@ impl EvalCtc {
         let mut answer = start(store);
         let mut done = 0;
         while done < count {
-            let here = (count - done).min(16);
+            let here = (count - done).min(64);
             let next = self.revise_block(store, near, rate, from + done, here);
             answer = answer.then(next);
             done += here;
@@ -411,7 +415,7 @@ impl EvalCtc {
         revise_by_formulas(&placed, store)
     }
 
-    // Fires each projection once: those of the gates by the rate come last, sixteen gates at a time.
+    // Fires each projection once: those of the gates by the rate come last, sixty-four gates at a time.
     fn fire(&self, store: &mut Store) -> Revised
         requires { EvalFits store.old.shape self.now.x.0 (rate_of self.now.rate) self.now.t.0 self.now.z.0 }
         ensures { Revises (eval_projections store.old.shape self.now.x.0 (rate_of self.now.rate) self.now.t.0 self.now.z.0 self.now.declared) store.old store.new result }

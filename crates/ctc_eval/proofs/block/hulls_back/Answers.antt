@@ -1,10 +1,9 @@
-use Rattle.std.proofs.Common.{replicate, ◌≡◌, ◌≢◌, ℕ, ◌+◌, ◌-◌, ◌<◌, inl, inr, None, Option, List, length, slice_index, slice_index_or, arith, refl, sym, ap, subst, ◌∙◌, set, length-set, get_or-set_same, get_or-set_other}
+use Rattle.std.proofs.Common.{◌≡◌, ◌≢◌, ℕ, ◌+◌, ◌-◌, ◌<◌, inl, inr, None, length, slice_index, slice_index_or, arith, sym, ap, subst, ◌∙◌, set, length-set, get_or-set_same, get_or-set_other}
 use Rattle.std.proofs.lemmas.List.{get_or_default}
-use Rattle.tube_spec.specs.Span.{Span}
 use Rattle.tube_spec.proofs.Ticks.{last-greatest}
 use Rattle.ctc_eval.specs.Clock.{cells_of}
 use Rattle.ctc_eval.specs.Walks.{IsFromOn}
-use Rattle.ctc_eval.proofs.Blocks.{nothing, only-there, same-or-other}
+use Rattle.ctc_eval.proofs.Blocks.{only-there, same-or-other}
 use Rattle.ctc_eval.proofs.block.hulls_back.Goals as goal
 
 pub loop-j-init : goal.loop-j-init
@@ -14,13 +13,12 @@ loop-j-init c =
     let covers = c.requires.covers in
     let end = slice_index grid (c.args.stretch.near.last + 1) in
     let here = only-there s.shape c.args.sweep.now.x.0 c.args.rate.0 c.args.sweep.now.z.0 (cells_of s.box) c.args.stretch.ticks end c.shared_in.result (last-greatest grid c.known.ensures.shape.grid.rising (c.args.stretch.near.last + 1) covers.among) covers.ends c.shared_in.ensures in
-    let blank : List (Option Span) = replicate 17 nothing in
-    let size : length blank ≡ 17 = refl in
+    let before = c.args.hulls.now in
     record {
-      back = subst (IsFromOn s.shape c.args.sweep.now.x.0 c.args.rate.0 c.args.sweep.now.z.0 (cells_of s.box) c.args.stretch.ticks end) (sym (get_or-set_same blank c.args.count c.shared_in.result None (omega (arith, size, c.requires.few)))) here;
+      back = subst (IsFromOn s.shape c.args.sweep.now.x.0 c.args.rate.0 c.args.sweep.now.z.0 (cells_of s.box) c.args.stretch.ticks end) (sym (get_or-set_same before c.args.count c.shared_in.result None (omega (arith, c.requires.room, c.requires.few)))) here;
       order = λ some. omega (arith, c.requires.gates, c.requires.some);
       named = covers.among;
-      room = length-set blank c.args.count c.shared_in.result ∙ size;
+      room = length-set before c.args.count c.shared_in.result ∙ c.requires.room;
       kept = λ k p q. absurd (omega (arith, p, q));
     }
 
@@ -37,7 +35,7 @@ carried_back-requires-clause-after c =
     let same : c.loop-j.j ≡ c.loop-j.j - 1 + 1 = omega (arith, c.loop-j-test.true) in
     let inside : c.loop-j.j - 1 + 1 < length c.loop-j.hulls = omega (arith, c.loop-j-test.true, c.loop-j.auto.j, c.requires.few, c.loop-j.invariant.room) in
     subst (IsFromOn s.shape c.args.sweep.now.x.0 c.args.rate.0 c.args.sweep.now.z.0 xs c.args.stretch.ticks (slice_index s.shape.grid c.loop-j.at))
-    (ap (λ (n : ℕ). slice_index_or c.loop-j.hulls n None) same ∙ get_or_default c.loop-j.hulls (c.loop-j.j - 1 + 1) None c.index-hulls-j.result inside) c.loop-j.invariant.back
+    (ap (λ (n : ℕ). slice_index_or c.loop-j.hulls n None) same ∙ get_or_default c.loop-j.hulls (c.loop-j.j - 1 + 1) None c.index-hulls-j.result inside ∙ sym c.index-hulls-j.is) c.loop-j.invariant.back
 
 pub loop-j-preserved : goal.loop-j-preserved
 loop-j-preserved c =

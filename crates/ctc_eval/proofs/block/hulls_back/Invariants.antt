@@ -9,6 +9,6 @@ invariant-loop-j l = record {
   back : IsFromOn l.store.shape l.sweep.x.0 l.rate.0 l.sweep.z.0 (cells_of l.store.box) l.stretch.ticks (slice_index l.store.shape.grid l.at) (slice_index_or l.hulls l.j None);
   order : 0 < l.j → l.first + (l.j - 1) ≤ l.at;
   named : l.at < length l.store.shape.grid;
-  room : length l.hulls ≡ 17;
+  room : length l.hulls ≡ 65;
   kept : (k : ℕ) → l.j ≤ k → k < l.fn.count → IsFromOn l.store.shape l.sweep.x.0 l.rate.0 l.sweep.z.0 (cells_of l.store.box) l.stretch.ticks (slice_index l.store.shape.grid (l.first + k)) (slice_index_or l.hulls k None);
 }
