@@ -157,7 +157,7 @@ fn gather(alloc: Global, runs: &[Run], parents: &[u32]) -> Result<Vec<Component>
     requires swept { IsSwept runs.now parents.now (length runs.now) }
     ensures { IfOk result (λ sets. AreComponents runs.now sets.items) }
 {
-    let mut labels: Vec<u32> = Vec::new(alloc);
+    let mut labels: Vec<u32> = Vec::with_capacity(alloc, runs.len())?;
     let mut sets = Vec::new(alloc);
     for i in 0..runs.len() {
         let label = label_of(parents, &labels, i as u32, sets.len() as u32);

@@ -12,7 +12,7 @@ pub fn alone(alloc: Global, count: usize) -> Result<Vec<u32>, AllocError>
     ensures len { IfOk result (λ v. length v.items ≡ count) }
     ensures own { IfOk result (λ v. (k : ℕ) → k < count → slice_index v.items k ≡ k) }
 {
-    let mut parents = Vec::new(alloc);
+    let mut parents = Vec::with_capacity(alloc, count)?;
     for k in 0..count {
         parents.push(k as u32)?;
     }

@@ -55,7 +55,7 @@ pub fn pave<L: Ledger>(
         count: 0,
     };
     quarter(tree, &mut work, 0, 0, side, depth, steps)?;
-    let runs = all_runs(alloc, &work.rows)?;
+    let runs = all_runs(alloc, &work.rows, work.count)?;
     Ok(Runs { runs })
 }
 

@@ -19,7 +19,7 @@ pub struct Stretch {
 pub fn empty_rows(alloc: Global, count: u32) -> Result<Vec<Vec<Stretch>>, AllocError>
     ensures { IfOk result (λ v. rows_of v.items ≡ replicate count []) }
 {
-    let mut rows: Vec<Vec<Stretch>> = Vec::new(alloc);
+    let mut rows: Vec<Vec<Stretch>> = Vec::with_capacity(alloc, count as usize)?;
     for _row in 0..count {
         rows.push(Vec::new(alloc))?;
     }
@@ -54,12 +54,16 @@ fn ends_before(row: &[Stretch], tick: u32) -> bool
     }
 }
 
-/// The runs of all rows, one row after the other.
-pub fn all_runs(alloc: Global, rows: &[Vec<Stretch>]) -> Result<Vec<Run>, AllocError>
+/// The runs of all rows, one row after the other, in memory for so many.
+pub fn all_runs(
+    alloc: Global,
+    rows: &[Vec<Stretch>],
+    count: usize,
+) -> Result<Vec<Run>, AllocError>
     requires { length rows.now ≤ 1000000 }
     ensures { IfOk result (λ v. v.items ≡ runs_below (rows_of rows.now) (length rows.now)) }
 {
-    let mut runs = Vec::new(alloc);
+    let mut runs = Vec::with_capacity(alloc, count)?;
     for a in 0..rows.len() {
         append_row(&mut runs, a as u32, &rows[a])?;
     }

@@ -4,7 +4,7 @@ use Rattle.tplane_paver.proofs.Reaching.{gathered-components}
 use Rattle.tplane_paver.proofs.classes.gather.Goals as goal
 
 pub loop-i-init : goal.loop-i-init
-loop-i-init c = gather-start c.args.runs.now c.args.parents.now c.new-labels.result.items c.new-sets.result.items c.new-labels.ensures.items c.new-sets.ensures.items
+loop-i-init c = gather-start c.args.runs.now c.args.parents.now c.in_ok-labels.labels.items c.new-sets.result.items c.in_ok-labels.ensures.items c.new-sets.ensures.items
 
 pub add-requires-clause-later : goal.add-requires-clause-later
 add-requires-clause-later c = set-before c.args.runs.now c.args.parents.now c.loop-i.i c.loop-i.labels.items c.loop-i.sets.items c.label_of-label.result c.requires.order c.loop-i-test.true c.loop-i.invariant
