@@ -1,5 +1,5 @@
 -- Tables of the greatest numbers.
-use Rattle.std.proofs.Common.{◌≡◌, ℕ, zero, suc, ◌+◌, ◌*◌, ◌<◌, ◌≤◌, ◌⊎◌, inl, inr, List, [], ◌∷◌, ◌++◌, Vec, length, get_or, map, take, All, ℤ, pos, ◌≤ℤ◌, arith, sym, ap, subst, ◌∙◌, w64, to_z, of_z, Option, Some, None, IfSome}
+use Rattle.std.proofs.Common.{◌≡◌, ℕ, zero, suc, ◌+◌, ◌-◌, ◌*◌, ◌/◌, ◌<◌, ◌≤◌, ◌⊎◌, inl, inr, List, [], ◌∷◌, ◌++◌, Vec, length, get_or, map, take, All, ℤ, pos, ◌≤ℤ◌, arith, sym, ap, subst, ◌∙◌, refl, min, w64, to_z, of_z, Option, Some, None, IfSome}
 use Rattle.std.specs.declared.alloc.Global.{Global}
 use Rattle.std.specs.Int.{int_max}
 use Rattle.std.proofs.lemmas.Int.{ints, clamps, to_z-of_z}
@@ -8,8 +8,8 @@ use Rattle.tube_spec.specs.Span.{Span, IsBounded, IsProper, point}
 use Rattle.tube_spec.specs.Box.{AreBounded}
 use Rattle.hull_tree.proofs.Gaps.{small_fits}
 use Rattle.loop_sets.specs.declared.table.Level.{Level}
-use Rattle.loop_sets.specs.Tables.{number_at, IsSmallNumber, AreSmall, IsTop, IsLevel}
-use Rattle.loop_sets.proofs.Lists.{split}
+use Rattle.loop_sets.specs.Tables.{number_at, IsSmallNumber, AreSmall, IsTop, IsLevel, AreBlockTops, IsInBlock, block_side}
+use Rattle.loop_sets.proofs.Lists.{split, below-or-same}
 
 -- two blocks of a level reach from one end to the other
 pub level-top : (values : List ℤ) (level : Level) (first last place : ℕ) (l r top : ℤ) → IsLevel values level → first < length level.tops.items → place < length level.tops.items
@@ -75,3 +75,38 @@ level-some levels i first last level (Some top) l e h = λ zs all. h zs (subst (
 pub table-some : (values : List ℤ) (levels lent : List Level) (first last : ℕ) (o : Option ℤ) → lent ≡ levels → All (IsLevel values) levels → IfSome o (λ top. (zs : List ℤ) → All (IsLevel zs) lent → IsTop zs first last top) → IfSome o (IsTop values first last)
 table-some values levels lent first last None e all h = tt
 table-some values levels lent first last (Some top) e all h = h values (subst (All (IsLevel values)) (sym e) all)
+
+-- a number of a list that is one longer
+pub number-before : (xs : List ℤ) (x : ℤ) (j : ℕ) → j < length xs → number_at (xs ++ x ∷ []) j ≡ number_at xs j
+number-before [] x j l = absurd (omega (arith, l))
+number-before (y ∷ ys) x zero l = refl
+number-before (y ∷ ys) x (suc j) l = number-before ys x j (omega (arith, l))
+
+pub number-last : (xs : List ℤ) (x : ℤ) → number_at (xs ++ x ∷ []) (length xs) ≡ x
+number-last [] x = refl
+number-last (y ∷ ys) x = number-last ys x
+
+-- the top of one block more
+pub block-more : (values tops more : List ℤ) (i end : ℕ) (x : ℤ) → length tops ≡ i → ((j k : ℕ) → j < i → k < length values → IsInBlock j k → number_at values k ≤ℤ number_at tops j)
+    → IsTop values (block_side * i) (end - 1) x → end ≡ min (block_side * i + block_side) (length values) → more ≡ tops ++ x ∷ [] → (j k : ℕ) → j < i + 1 → k < length values → IsInBlock j k → number_at values k ≤ℤ number_at more j
+block-more values tops more i end x n over top e m j k l w b = subst (λ (zs : List ℤ). number_at values k ≤ℤ number_at zs j) (sym m) (at (below-or-same j i l))
+  where
+    at : (j < i) ⊎ (j ≡ i) → number_at values k ≤ℤ number_at (tops ++ x ∷ []) j
+    at (inl h) = omega (arith, ints, number-before tops x j (omega (arith, n, h)), over j k h w b)
+    at (inr h) =
+        let same : number_at (tops ++ x ∷ []) j ≡ x = ap (λ (q : ℕ). number_at (tops ++ x ∷ []) q) (h ∙ sym n) ∙ number-last tops x in
+        omega (arith, ints, same, top.over k (omega (arith, b.0, h)) (omega (arith, b.1, h, e, w)))
+
+-- the ends of a range, and the blocks between
+pub top-between : (values tops : List ℤ) (first last low high : ℕ) (a b m top : ℤ) → AreBlockTops values tops → last < length values → last < 32 * high + 32 → low + 2 ≤ high
+    → IsTop values first (32 * low + 32 - 1) a → IsTop values (32 * high) last b → IsTop tops (low + 1) (high - 1) m → a ≤ℤ top → b ≤ℤ top → m ≤ℤ top → IsSmallNumber top → IsTop values first last top
+top-between values tops first last low high a b m top are within end far is-a is-b is-m le-a le-b le-m small = record {
+  over = λ k l h. at k l h (split k (32 * low + 32)) (split k (32 * high));
+  small = small;
+}
+  where
+    at : (k : ℕ) → first ≤ k → k ≤ last → (k < 32 * low + 32) ⊎ (32 * low + 32 ≤ k) → (k < 32 * high) ⊎ (32 * high ≤ k) → number_at values k ≤ℤ top
+    at k l h (inl before) s = omega (arith, ints, is-a.over k l (omega (arith, before)), le-a)
+    at k l h (inr past) (inr after) = omega (arith, ints, is-b.over k after h, le-b)
+    at k l h (inr past) (inl inner) =
+        omega (arith, ints, are.over (k / 32) k (omega (arith, h, within)) (omega arith, omega arith), is-m.over (k / 32) (omega (arith, past)) (omega (arith, inner)), le-m)

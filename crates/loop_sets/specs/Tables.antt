@@ -1,5 +1,5 @@
 -- Tables of the greatest numbers over ranges of places.
-use Rattle.std.specs.Prelude.{ℕ, ◌+◌, ◌<◌, ◌≤◌, Option, Some, None, List, length, ℤ, pos, neg_ℤ, ◌-ℤ◌, ◌≤ℤ◌, slice_index_or}
+use Rattle.std.specs.Prelude.{ℕ, ◌+◌, ◌*◌, ◌<◌, ◌≤◌, Option, Some, None, List, length, ℤ, pos, neg_ℤ, ◌-ℤ◌, ◌≤ℤ◌, slice_index_or}
 use Rattle.std.specs.Int.{int_max}
 use Rattle.tube_spec.specs.Span.{Span, natural}
 use Rattle.loop_sets.specs.declared.table.Level.{Level}
@@ -24,6 +24,21 @@ pub record IsTop (values : List ℤ) (first last : ℕ) (top : ℤ) : Type 0 whe
 pub record IsLevel (values : List ℤ) (level : Level) : Type 0 where
   pub over : (i k : ℕ) → i < length level.tops.items → i ≤ k → k < i + level.side → number_at values k ≤ℤ number_at level.tops.items i
   pub small : AreSmall level.tops.items
+
+-- how many numbers a block has, but the last one
+abbrev pub block_side : ℕ
+block_side = 32
+
+-- a place is in a block
+abbrev pub IsInBlock : ℕ → ℕ → Type 0
+IsInBlock i k = (block_side * i ≤ k) × (k < block_side * i + block_side)
+
+-- The numbers in blocks: of each block a small number that none of its numbers is above.
+pub record AreBlockTops (values tops : List ℤ) : Type 0 where
+  pub over : (i k : ℕ) → k < length values → IsInBlock i k → number_at values k ≤ℤ number_at tops i
+  pub small : AreSmall tops
+  pub all : length values ≤ block_side * length tops
+  pub few : length tops ≤ length values
 
 -- what the greatest change from an interval to others is not below: no lower bound of them is above the first number, and no opposite of
 -- an upper bound above the second

@@ -11,7 +11,7 @@ ghost use Rattle.loop_degree.specs.Steps.{step_of, greatest_in, greatest_sum};
 ghost use Rattle.loop_sets.specs.Cells.{column, pairs_in};
 ghost use Rattle.loop_sets.specs.Bounds.{AreSteps, AreTopped, EndBefore, greater_sum, step_at};
 
-use crate::table::Table;
+use crate::blocks::Table;
 use loop_prover::greatest_step;
 use std::alloc::{AllocError, Global};
 use tplane_paver::Run;

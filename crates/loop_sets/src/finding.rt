@@ -15,7 +15,7 @@ ghost use Rattle.loop_sets.specs.Finding.{IsFinding, IsTested};
 use crate::bounds::{bound_over, steps_of};
 use crate::cells::cell_runs;
 use crate::sure::least_sure;
-use crate::table::Table;
+use crate::blocks::Table;
 use crate::tube::Tube;
 use crate::turns::{View, set_turns};
 use hull_tree::{Query, is_near};

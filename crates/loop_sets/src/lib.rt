@@ -4,6 +4,7 @@
 //! cells. The cells are kept as runs, so that neither the memory nor the labels grow with the pairs, but with the runs and their sides.
 #![tactic(auto)]
 
+mod blocks;
 mod bounds;
 mod cells;
 mod finding;

@@ -53,14 +53,15 @@ impl Level {
     }
 }
 
-/// Numbers, with a table of the greatest of any neighbours: level by level the sides double. A contract sees the numbers.
+/// Numbers, with a table of the greatest of any neighbours: level by level the sides double, so that its memory is that of the numbers times
+/// the logarithm of how many there are. A contract sees the numbers.
 #[derive(Drop)]
-pub(crate) struct Table {
+pub(crate) struct Sparse {
     values: Vec<i64>,
     levels: Vec<Level>,
 }
 
-impl Model for Table {
+impl Model for Sparse {
     ghost use Rattle.std.specs.Prelude.{List, ℤ, All};
     ghost use Rattle.loop_sets.specs.Tables.{IsLevel};
 
@@ -71,9 +72,9 @@ impl Model for Table {
     ghost invariant = { λ t. All (IsLevel t.values.items) t.levels.items };
 }
 
-impl Table {
+impl Sparse {
     /// The table of numbers.
-    pub(crate) fn new(alloc: Global, values: Vec<i64>) -> Result<Table, AllocError>
+    pub(crate) fn new(alloc: Global, values: Vec<i64>) -> Result<Sparse, AllocError>
         requires short { length values.items ≤ 200000 }
         requires small { AreSmall values.items }
         ensures { IfOk result (λ table. table ≡ values.items) }
@@ -86,15 +87,7 @@ impl Table {
             level = next;
         }
         levels.push(level)?;
-        Ok(Table { values, levels })
-    }
-
-    /// The number at a place.
-    pub(crate) fn at(&self, place: usize) -> i64
-        requires { place < length self.now }
-        ensures { result ≡ number_at self.now place }
-    {
-        self.values[place]
+        Ok(Sparse { values, levels })
     }
 
     /// No number from a place to another is above it. None where the table does not tell.

@@ -9,7 +9,7 @@ ghost use Rattle.tube_spec.specs.Box.{AreBounded, cell_at};
 ghost use Rattle.hull_tree.specs.Plane.{greatest_abs, change, tube_of};
 ghost use Rattle.loop_sets.specs.Tables.{IsSmallNumber, AreSmall, reach_of};
 
-use crate::table::Table;
+use crate::blocks::Table;
 use int_interval::Interval;
 use std::alloc::{AllocError, Global};
 use std::marker::Model;

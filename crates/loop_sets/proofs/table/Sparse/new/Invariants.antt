@@ -1,6 +1,6 @@
 use Rattle.std.proofs.Common.{◌≤◌, length, All}
 use Rattle.loop_sets.specs.Tables.{IsLevel}
-use Rattle.loop_sets.proofs.table.Table.new.Given as goal
+use Rattle.loop_sets.proofs.table.Sparse.new.Given as goal
 
 -- the levels so far, and the next one
 abbrev pub invariant-loop-level : goal.invariant-loop-level

@@ -1,7 +1,7 @@
 use Rattle.std.proofs.Common.{List, ℤ, IfSome, subst}
 use Rattle.loop_sets.specs.Tables.{IsTop}
 use Rattle.loop_sets.proofs.Tabling.{table-some}
-use Rattle.loop_sets.proofs.table.Table.over.Goals as goal
+use Rattle.loop_sets.proofs.table.Sparse.over.Goals as goal
 
 pub returns : goal.returns
 returns c =

@@ -1,7 +1,7 @@
 use Rattle.std.proofs.Common.{arith}
 use Rattle.std.proofs.lemmas.List.Elements.{All-push}
 use Rattle.loop_sets.specs.Tables.{IsLevel}
-use Rattle.loop_sets.proofs.table.Table.new.Goals as goal
+use Rattle.loop_sets.proofs.table.Sparse.new.Goals as goal
 
 pub loop-level-preserved : goal.loop-level-preserved
 loop-level-preserved c =
