@@ -64,14 +64,18 @@ bound-more None step cells i d top at_a at_b next l h a b e = tt
 bound-more (Some xs) step cells i d top at_a at_b next l h a b e =
     let more = fold_more (λ (t : ℤ) (c : ℕ × ℕ). int_max t (step xs c.0 +ℤ step xs c.1)) (pos 1) cells i d l in cc
 
--- the difference of two intervals, before any rate
-pub step-start : (box : Option (List Span)) (later now : List Span → Span) (a b s : Span) → IsProper a → IsProper b → s ≡ sub_of a b → IfSome box (λ xs. a ≡ later xs) → IfSome box (λ xs. b ≡ now xs)
-    → IfSome box (λ xs. Some s ≡ proper (sub_of (later xs) (now xs)))
-step-start None later now a b s p q e h k = tt
-step-start (Some xs) later now a b s p q e h k = ap (λ (t : Span). Some t) e ∙ sym (is-proper (sub_of a b) (omega (arith, ints, p, q))) ∙ ap (λ (t : Span). proper (sub_of t b)) h ∙ ap (λ (t : Span). proper (sub_of (later xs) t)) k
-  where
-    is-proper : (t : Span) → IsProper t → proper t ≡ Some t
-    is-proper t h = let l : int_le t.lo t.hi ≡ true = grind (arith, ints) in rw l refl
+-- a change, before any rate
+pub step-start : (box : Option (List Span)) (s : Span) → IsProper s → IfSome box (λ xs. Some s ≡ proper s)
+step-start None s h = tt
+step-start (Some xs) s h = let l : int_le s.lo s.hi ≡ true = grind (arith, ints) in rw l refl
+
+-- the change is a difference of two intervals
+pub step-left : (box : Option (List Span)) (later now : List Span → Span) (tube : List Span → ℕ → Span) (rates : List ℕ) (a b change : Span) (r : ℤ) → IfSome box (λ xs. a ≡ later xs) → IfSome box (λ xs. b ≡ now xs) → change ≡ sub_of a b
+    → IfSome box (λ xs. r ≡ greatest_in (fold (λ s v. meet_of s (tube xs v)) change rates)) → IfSome box (λ xs. r ≡ greatest_in (fold (λ s v. meet_of s (tube xs v)) (sub_of (later xs) (now xs)) rates))
+step-left None later now tube rates a b change r h k e f = tt
+step-left (Some xs) later now tube rates a b change r h k e f =
+    let g = λ (t : Span). greatest_in (fold (λ (s : Span) (v : ℕ). meet_of s (tube xs v)) t rates) in
+    f ∙ ap g (e ∙ ap (λ (t : Span). sub_of t b) h ∙ ap (λ (t : Span). sub_of (later xs) t) k)
 
 -- all rates
 pub step-end : (box : Option (List Span)) (first : List Span → Span) (tube : List Span → ℕ → Span) (rates : List SignalId) (i : ℕ) (step : Option Span) (r : ℤ) → length rates ≤ i

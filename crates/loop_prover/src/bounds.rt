@@ -6,7 +6,7 @@ ghost use Rattle.tube_spec.specs.Span.{IsBounded};
 ghost use Rattle.tube_spec.specs.Grid.{last_tick};
 ghost use Rattle.tube_spec.specs.Tick.{at_tick};
 ghost use Rattle.loop_degree.specs.Steps.{step_of, greatest_in, step_bound_of};
-ghost use Rattle.loop_prover.specs.Steps.{meet_option, greatest_option};
+ghost use Rattle.loop_prover.specs.Steps.{meet_option, greatest_option, left_of};
 
 use int_interval::Interval;
 use tube_store::{SignalId, Store};
@@ -36,6 +36,29 @@ fn greatest(step: Option<Interval>) -> i64
     }
 }
 
+/// The greatest absolute value of what the rates of a signal leave of a change from a tick to the next, in millimetres; 0 where they share
+/// nothing with it. It takes no memory.
+///
+/// The store is not to be empty, the rates are to be its own, and the tick before its last one.
+pub fn greatest_left(store: &Store, change: Interval, rates: &[SignalId], tick: u32) -> i64
+    requires filled { IsSome store.now.box }
+    requires change { IsBounded 1000000000 change }
+    requires rates { All (λ r. r.0 < length store.now.shape.signals) rates.now }
+    requires tick { tick < last_tick store.now.shape.grid }
+    ensures value { IfSome store.now.box (λ xs. result ≡ greatest_in (left_of (at_tick store.now.shape xs) change (map (λ r. r.0) rates.now) tick)) }
+    ensures least { pos 0 ≤ℤ result }
+    ensures most { result ≤ℤ pos 1000000000 }
+{
+    store.known();
+    change.known();
+    let mut step = Some(change);
+    for rate in rates {
+        let speed = store.at_tick(*rate, tick);
+        step = narrowed(step, speed);
+    }
+    greatest(step)
+}
+
 /// The greatest absolute step of a signal from a tick to the next, in millimetres, by what the store gives it and its rates; 0 where these
 /// share nothing. It takes no memory.
 ///
@@ -52,12 +75,7 @@ pub fn greatest_step(store: &Store, x: SignalId, rates: &[SignalId], tick: u32) 
     store.known();
     let later = store.at_tick(x, tick + 1);
     let now = store.at_tick(x, tick);
-    let mut step = Some(later.sub(now));
-    for rate in rates {
-        let speed = store.at_tick(*rate, tick);
-        step = narrowed(step, speed);
-    }
-    greatest(step)
+    greatest_left(store, later.sub(now), rates, tick)
 }
 
 /// The step bound of a signal over cells, in millimetres: the greatest, over the cells `(a, b)`, of the sum of the greatest absolute steps

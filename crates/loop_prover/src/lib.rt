@@ -8,7 +8,7 @@ mod bounds;
 mod labels;
 mod laws;
 
-pub use bounds::{greatest_step, step_bound};
+pub use bounds::{greatest_left, greatest_step, step_bound};
 pub use labels::{label, labels_of};
 pub use laws::labels_law;
 pub use loop_degree::{Label, check_cells, degree_law};
