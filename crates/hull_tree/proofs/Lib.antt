@@ -3,4 +3,5 @@ pub mod Judgements
 pub mod Blocks
 pub mod Nearness
 pub mod Tubes
+pub mod Filling
 mod Examples

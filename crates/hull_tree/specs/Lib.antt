@@ -3,3 +3,4 @@ pub mod Plane
 pub mod Judging
 pub mod Levels
 pub mod Revisits
+pub mod Tubes

@@ -20,8 +20,10 @@
 mod hulls;
 mod laws;
 mod ranges;
+mod ticks;
 mod tree;
 
 pub use laws::{possible_law, sure_law};
+pub use ticks::ticks_of;
 pub use tree::{HullTree, Judged};
 pub use tube_names::{Norm, Query, is_near};

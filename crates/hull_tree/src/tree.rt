@@ -3,15 +3,13 @@
 ghost use Rattle.std.specs.Prelude.{◌≡◌, ◌+◌, ◌<◌, ◌≤◌, length, IsSome, IfSome, IfOk};
 ghost use Rattle.tube_spec.specs.Limits.{most_ticks};
 ghost use Rattle.tube_spec.specs.Grid.{last_tick};
-ghost use Rattle.tube_spec.specs.Tick.{at_tick};
-ghost use Rattle.tube_spec.specs.Box.{AreBounded, IsBox};
 ghost use Rattle.hull_tree.specs.Asked.{IsAsked};
 ghost use Rattle.hull_tree.specs.Plane.{Plane, IsPlane, plane_of, tube_of, is_possible};
 ghost use Rattle.hull_tree.specs.Judging.{TickBox, judged, Says};
 
 use crate::hulls::{greatest_gap, least_gap};
 use crate::ranges::RangeTree;
-use int_interval::Interval;
+use crate::ticks::ticks_of;
 use std::alloc::Global;
 use std::marker::Model;
 use std::sync::ledger::Ledger;
@@ -137,11 +135,6 @@ fn range_tree(alloc: Global, store: &Store, signal: SignalId) -> Result<RangeTre
     ensures len { IfOk result (λ tree. length tree ≡ last_tick store.now.shape.grid + 1) }
     ensures short { last_tick store.now.shape.grid ≤ most_ticks }
 {
-    store.grid().known();
-    let count = store.grid().ticks() as usize + 1;
-    let mut ticks: Vec<Interval> = Vec::with_capacity(alloc, count)?;
-    for tick in 0..store.grid().ticks() + 1 {
-        ticks.push(store.at_tick(signal, tick))?;
-    }
+    let ticks = ticks_of(alloc, store, signal)?;
     Ok(RangeTree::new(alloc, ticks)?)
 }
