@@ -8,7 +8,15 @@ use Rattle.std.proofs.lemmas.List.FromFn.{map-range_with_len_more}
 use Rattle.tube_spec.specs.Span.{Span}
 use Rattle.tplane_paver.specs.declared.runs.Run.{Run}
 use Rattle.tplane_paver.specs.Runs.{run_at}
-use Rattle.loop_degree.specs.Steps.{greatest_sum}
+use Rattle.tube_spec.specs.Span.{sub_of}
+use Rattle.tube_spec.specs.Shape.{Shape}
+use Rattle.tube_spec.specs.Grid.{last_tick}
+use Rattle.tube_spec.specs.Box.{cell_at}
+use Rattle.tube_spec.specs.Tick.{at_tick}
+use Rattle.hull_tree.specs.Plane.{tube_of}
+use Rattle.hull_tree.proofs.Nearness.{tube_of-tick}
+use Rattle.loop_degree.specs.Steps.{greatest_sum, greatest_in, step_of}
+use Rattle.loop_prover.specs.Steps.{left_of}
 use Rattle.loop_sets.specs.Cells.{column, ticks_in, pairs_in}
 use Rattle.loop_sets.specs.Bounds.{step_at, AreSteps, AreTopped, greater_sum}
 use Rattle.loop_sets.specs.Tables.{AreSmall, IsTop}
@@ -56,6 +64,16 @@ fold-halves f top higher higher' next a first middle last l m h same e =
     ∙ ap (λ (j : ℕ). fold (greater_sum f) top (column a first (middle + 1 - first) ++ column a j (last + 1 - (middle + 1)))) (sym k)
     ∙ ap (fold (greater_sum f) top) (sym (column-split a first (middle + 1 - first) (last + 1 - (middle + 1))))
     ∙ ap (λ (j : ℕ). fold (greater_sum f) top (column a first j)) n
+
+-- a step by the tube of a signal
+pub step-told : (box : Option (List Span)) (s : Shape) (x k : ℕ) (rates : List ℕ) (ticks : List Span) (change : Span) (r : ℤ) → k < last_tick s.grid → IfSome box (λ xs. ticks ≡ tube_of s xs x)
+    → change ≡ sub_of (cell_at ticks (k + 1)) (cell_at ticks k) → IfSome box (λ xs. r ≡ greatest_in (left_of (at_tick s xs) change rates k)) → IfSome box (λ xs. r ≡ greatest_in (step_of (at_tick s xs) x rates k))
+step-told None s x k rates ticks change r l e d h = tt
+step-told (Some xs) s x k rates ticks change r l e d h =
+    let later : cell_at ticks (k + 1) ≡ at_tick s xs x (k + 1) = ap (λ (t : List Span). cell_at t (k + 1)) e ∙ tube_of-tick s xs x (k + 1) (omega (arith, l)) in
+    let now : cell_at ticks k ≡ at_tick s xs x k = ap (λ (t : List Span). cell_at t k) e ∙ tube_of-tick s xs x k (omega (arith, l)) in
+    let g = λ (t : Span). greatest_in (left_of (at_tick s xs) t rates k) in
+    h ∙ ap g (d ∙ ap (λ (t : Span). sub_of t (cell_at ticks k)) later ∙ ap (λ (t : Span). sub_of (at_tick s xs x (k + 1)) t) now)
 
 -- one run
 pub bound-run : (f : ℕ → ℤ) (runs : List Run) (i : ℕ) (top next : ℤ) → i < length runs → top ≡ greatest_sum f (pairs_in (take i runs))

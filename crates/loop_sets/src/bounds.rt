@@ -6,53 +6,63 @@ ghost use Rattle.std.specs.List.{range_with_len, fold};
 ghost use Rattle.tube_spec.specs.Limits.{greatest_radius, most_ticks};
 ghost use Rattle.tube_spec.specs.Grid.{last_tick};
 ghost use Rattle.tube_spec.specs.Tick.{at_tick};
+ghost use Rattle.hull_tree.specs.Plane.{tube_of};
 ghost use Rattle.tplane_paver.specs.Runs.{AreInOrder};
 ghost use Rattle.loop_degree.specs.Steps.{step_of, greatest_in, greatest_sum};
 ghost use Rattle.loop_sets.specs.Cells.{column, pairs_in};
 ghost use Rattle.loop_sets.specs.Bounds.{AreSteps, AreTopped, EndBefore, greater_sum, step_at};
 
 use crate::blocks::Table;
-use loop_prover::greatest_step;
+use crate::tube::Tube;
+use loop_prover::greatest_left;
 use std::alloc::{AllocError, Global};
 use tplane_paver::Run;
 use tube_store::{SignalId, Store};
 
-/// The greatest absolute steps of a signal from each tick to the next, from tick 0 on, with a table of the greatest ones.
+/// The greatest absolute steps of a signal, whose tube is given, from each tick to the next, from tick 0 on, with a table of the greatest ones.
 pub(crate) fn steps_of(
     alloc: Global,
     store: &Store,
+    tube: &Tube,
     x: SignalId,
     rates: &[SignalId],
 ) -> Result<Table, AllocError>
     requires filled { IsSome store.now.box }
     requires x { x.0 < length store.now.shape.signals }
+    requires tube { IfSome store.now.box (λ xs. tube.now ≡ tube_of store.now.shape xs x.0) }
+    requires ticks { length tube.now ≡ last_tick store.now.shape.grid + 1 }
     requires rates { All (λ r. r.0 < length store.now.shape.signals) rates.now }
     ensures made { IfOk result (λ v. IfSome store.now.box (λ xs. v ≡ map (λ k. greatest_in (step_of (at_tick store.now.shape xs) x.0 (map (λ r. r.0) rates.now) k)) (range_with_len 0 (last_tick store.now.shape.grid)))) }
     ensures len { IfOk result (λ v. length v ≡ last_tick store.now.shape.grid) }
     ensures small { IfOk result (λ v. AreSteps v) }
 {
     store.grid().known();
-    let steps = all_steps(alloc, store, x, rates)?;
+    let steps = all_steps(alloc, store, tube, x, rates)?;
     Table::new(alloc, steps)
 }
 
-/// The greatest absolute steps of a signal from each tick to the next.
+/// The greatest absolute steps of a signal, whose tube is given, from each tick to the next.
 fn all_steps(
     alloc: Global,
     store: &Store,
+    tube: &Tube,
     x: SignalId,
     rates: &[SignalId],
 ) -> Result<Vec<i64>, AllocError>
     requires filled { IsSome store.now.box }
     requires x { x.0 < length store.now.shape.signals }
+    requires tube { IfSome store.now.box (λ xs. tube.now ≡ tube_of store.now.shape xs x.0) }
+    requires ticks { length tube.now ≡ last_tick store.now.shape.grid + 1 }
     requires rates { All (λ r. r.0 < length store.now.shape.signals) rates.now }
     ensures made { IfOk result (λ v. IfSome store.now.box (λ xs. v.items ≡ map (λ k. greatest_in (step_of (at_tick store.now.shape xs) x.0 (map (λ r. r.0) rates.now) k)) (range_with_len 0 (last_tick store.now.shape.grid)))) }
     ensures len { IfOk result (λ v. length v.items ≡ last_tick store.now.shape.grid) }
     ensures small { IfOk result (λ v. AreSteps v.items) }
 {
-    let mut steps = Vec::new(alloc);
-    for tick in 0..store.grid().ticks() {
-        steps.push(greatest_step(store, x, rates, tick))?;
+    let ticks = store.grid().ticks();
+    let mut steps = Vec::with_capacity(alloc, ticks as usize)?;
+    for tick in 0..ticks {
+        let change = tube.change_between(tick, tick + 1);
+        steps.push(greatest_left(store, change, rates, tick))?;
     }
     Ok(steps)
 }

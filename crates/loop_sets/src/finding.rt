@@ -81,8 +81,8 @@ impl<'a> Prover<'a> {
     {
         let x = Tube::new(alloc, store, query.x)?;
         let y = Tube::new(alloc, store, query.y)?;
-        let steps_x = steps_of(alloc, store, query.x, rates_x)?;
-        let steps_y = steps_of(alloc, store, query.y, rates_y)?;
+        let steps_x = steps_of(alloc, store, &x, query.x, rates_x)?;
+        let steps_y = steps_of(alloc, store, &y, query.y, rates_y)?;
         Ok(Prover {
             store,
             query,

@@ -10,6 +10,7 @@ ghost use Rattle.hull_tree.specs.Plane.{greatest_abs, change, tube_of};
 ghost use Rattle.loop_sets.specs.Tables.{IsSmallNumber, AreSmall, reach_of};
 
 use crate::blocks::Table;
+use hull_tree::ticks_of;
 use int_interval::Interval;
 use std::alloc::{AllocError, Global};
 use std::marker::Model;
@@ -55,6 +56,16 @@ impl Tube {
         })
     }
 
+    /// What it may change by from a tick to another.
+    pub(crate) fn change_between(&self, a: u32, b: u32) -> Interval
+        requires a { a < length self.now }
+        requires b { b < length self.now }
+        ensures value { result ≡ change self.now a b }
+        ensures bounded { IsBounded 1000000000 result }
+    {
+        change_between(self.ticks[a as usize], self.ticks[b as usize])
+    }
+
     /// The greatest absolute change from a tick to another.
     pub(crate) fn greatest_change(&self, a: u32, b: u32) -> u64
         requires a { a < length self.now }
@@ -81,30 +92,13 @@ impl Tube {
     }
 }
 
-/// What a store gives a signal at each tick, from tick 0 to the last.
-fn ticks_of(alloc: Global, store: &Store, signal: SignalId) -> Result<Vec<Interval>, AllocError>
-    requires filled { IsSome store.now.box }
-    requires signal { signal.0 < length store.now.shape.signals }
-    ensures tube { IfOk result (λ ticks. IfSome store.now.box (λ xs. ticks.items ≡ tube_of store.now.shape xs signal.0)) }
-    ensures len { IfOk result (λ ticks. length ticks.items ≡ last_tick store.now.shape.grid + 1) }
-    ensures bounded { IfOk result (λ ticks. AreBounded ticks.items) }
-    ensures short { last_tick store.now.shape.grid ≤ most_ticks }
-{
-    store.grid().known();
-    let mut ticks: Vec<Interval> = Vec::new(alloc);
-    for tick in 0..store.grid().ticks() + 1 {
-        ticks.push(store.at_tick(signal, tick))?;
-    }
-    Ok(ticks)
-}
-
 /// The lower bounds of intervals.
 fn lower_bounds(alloc: Global, ticks: &[Interval]) -> Result<Vec<i64>, AllocError>
     requires { AreBounded ticks.now }
     ensures items { IfOk result (λ v. v.items ≡ map (λ s. s.lo) ticks.now) }
     ensures small { IfOk result (λ v. AreSmall v.items) }
 {
-    let mut bounds = Vec::new(alloc);
+    let mut bounds = Vec::with_capacity(alloc, ticks.len())?;
     for tick in ticks {
         tick.known();
         bounds.push(tick.lo())?;
@@ -118,7 +112,7 @@ fn upper_bounds(alloc: Global, ticks: &[Interval]) -> Result<Vec<i64>, AllocErro
     ensures items { IfOk result (λ v. v.items ≡ map (λ s. neg_ℤ s.hi) ticks.now) }
     ensures small { IfOk result (λ v. AreSmall v.items) }
 {
-    let mut bounds = Vec::new(alloc);
+    let mut bounds = Vec::with_capacity(alloc, ticks.len())?;
     for tick in ticks {
         tick.known();
         let opposite = opposite(tick.hi());
@@ -144,6 +138,16 @@ fn difference(x: i64, y: i64) -> i64
     ensures most { result ≤ℤ pos greatest_radius }
 {
     x - y
+}
+
+/// What there may be between a number of one interval and a number of another.
+fn change_between(before: Interval, after: Interval) -> Interval
+    requires before { IsBounded greatest_bound before }
+    requires after { IsBounded greatest_bound after }
+    ensures value { result ≡ sub_of after before }
+    ensures bounded { IsBounded 1000000000 result }
+{
+    after.sub(before)
 }
 
 /// The greatest distance between a number of one interval and a number of another.

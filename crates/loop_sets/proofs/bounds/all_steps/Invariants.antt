@@ -9,6 +9,6 @@ use Rattle.loop_sets.proofs.bounds.all_steps.Given as goal
 abbrev pub invariant-loop-tick : goal.invariant-loop-tick
 invariant-loop-tick l = record {
   len : length l.steps.items ≡ l.tick;
-  made : IfSome l.store.box (λ xs. l.steps.items ≡ map (λ k. greatest_in (step_of (at_tick l.store.shape xs) l.x.0 (map (λ r. r.0) l.rates) k)) (range_with_len 0 l.tick));
+  made : IfSome l.store.box (λ xs. l.steps.items ≡ map (λ k. greatest_in (step_of (at_tick l.store.shape xs) l.fn.x.0 (map (λ r. r.0) l.rates) k)) (range_with_len 0 l.tick));
   small : AreSteps l.steps.items;
 }
