@@ -14,11 +14,7 @@ use tube_store::{SignalId, Store};
 /// What a store gives a signal at each tick, from tick 0 to the last. Each cell of the signal is read once.
 ///
 /// The store is not to be empty, and the signal to be its own.
-pub fn ticks_of(
-    alloc: Global,
-    store: &Store,
-    signal: SignalId,
-) -> Result<Vec<Interval>, AllocError>
+pub fn ticks_of(alloc: Global, store: &Store, signal: SignalId) -> Result<Vec<Interval>, AllocError>
     requires filled { IsSome store.now.box }
     requires signal { signal.0 < length store.now.shape.signals }
     ensures tube { IfOk result (λ ticks. IfSome store.now.box (λ xs. ticks.items ≡ tube_of store.now.shape xs signal.0)) }

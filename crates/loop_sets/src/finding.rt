@@ -12,10 +12,10 @@ ghost use Rattle.loop_degree.specs.Boundary.{IsSmall};
 ghost use Rattle.loop_sets.specs.Views.{tested};
 ghost use Rattle.loop_sets.specs.Finding.{IsFinding, IsTested};
 
+use crate::blocks::Table;
 use crate::bounds::{bound_over, steps_of};
 use crate::cells::cell_runs;
 use crate::sure::least_sure;
-use crate::blocks::Table;
 use crate::tube::Tube;
 use crate::turns::{View, set_turns};
 use hull_tree::{Query, is_near};

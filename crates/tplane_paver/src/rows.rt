@@ -55,11 +55,7 @@ fn ends_before(row: &[Stretch], tick: u32) -> bool
 }
 
 /// The runs of all rows, one row after the other, in memory for so many.
-pub fn all_runs(
-    alloc: Global,
-    rows: &[Vec<Stretch>],
-    count: usize,
-) -> Result<Vec<Run>, AllocError>
+pub fn all_runs(alloc: Global, rows: &[Vec<Stretch>], count: usize) -> Result<Vec<Run>, AllocError>
     requires { length rows.now ≤ 1000000 }
     ensures { IfOk result (λ v. v.items ≡ runs_below (rows_of rows.now) (length rows.now)) }
 {

@@ -11,5 +11,5 @@ pub returns : goal.returns
 returns c =
     let is = c.known.ensures.shape.grid in
     let done = tube-ended c.args.store.now.shape c.args.store.now.box c.args.signal.0 c.loop-slice.slice c.gate-cell.result.0 c.loop-slice.ticks.items c.push.new.self.items c.get-last.result is
-        (omega (arith, c.slices-end.ensures)) c.loop-slice.invariant (omega (arith, c.gate-cell.ensures.cell)) c.get-last.ensures.value c.get-last.ensures.proper c.get-last.ensures.bounded c.in_ok-push.ensures.items in
+    (omega (arith, c.slices-end.ensures)) c.loop-slice.invariant (omega (arith, c.gate-cell.ensures.cell)) c.get-last.ensures.value c.get-last.ensures.proper c.get-last.ensures.bounded c.in_ok-push.ensures.items in
     record { tube = done.made; len = done.len; proper = done.proper; bounded = done.bounded; short = is.ends }
