@@ -68,6 +68,19 @@ impl PartMarks {
         set_flags(&mut self.flags, parts);
     }
 
+    /// Marks the part of a contractor that has one, and says that it did; where there are flags nothing is done. No mark is cleared.
+    pub(crate) fn mark_only_one(&mut self) -> bool
+        ensures len { length self.new.flags ≡ length self.old.flags }
+        ensures kept { (i : ℕ) → marked_at self.old i ≡ true → marked_at self.new i ≡ true }
+        ensures marked { IsTrue result → (i : ℕ) → i < length self.old.flags → marked_at self.new i ≡ true }
+    {
+        if !self.flags.is_empty() {
+            return false;
+        }
+        self.within = 0..1;
+        true
+    }
+
     /// Marks the parts of a contractor that read a cell. No mark is cleared.
     pub fn mark_readers<C: Parted>(&mut self, c: &C, store: &Store, cell: CellId)
         requires fits { C.fits c.now store.now.shape store.now.box }

@@ -10,7 +10,7 @@ use ctc_parts::Parted;
 use once_queue::Waiting;
 use tube_store::{CellId, Store};
 
-/// Marks the parts of the contractor with a number that read a cell, where there is one.
+/// Marks the parts of the contractor with a number that read a cell, where there is one. One of a single part is not looked at.
 fn mark_reader<C: Parted>(
     contractors: &[Option<C>],
     store: &Store,
@@ -25,6 +25,9 @@ fn mark_reader<C: Parted>(
     ensures kept { KeepsMarks marks.old marks.new }
     ensures reached { IsReached C.parts C.part_scope store.now.shape contractors.now marks.new cell.0 number }
 {
+    if marks[number as usize].mark_only_one() {
+        return;
+    }
     match &contractors[number as usize] {
         Some(c) => marks[number as usize].mark_readers(c, store, cell),
         None => {}
