@@ -1,9 +1,9 @@
 -- What the two passes answer is what the comparison leaves of its entries.
 use Rattle.std.proofs.Common.{◌≡◌, ℕ, zero, suc, ◌+◌, ◌-◌, ◌<◌, ◌≤◌, ◌⊎◌, inl, inr, ◌&&◌, Bool, true, false, cond, List, [], ◌∷◌, ◌++◌, Option, Some, None, pos, refl, sym, ap, ap₂, subst, ◌∙◌, length, length-append, append_assoc, drop, map, set, slice_index, slice_index_or, append-nil, All, arith}
-use Rattle.std.proofs.lemmas.List.{get_or-map}
+use Rattle.std.proofs.lemmas.List.{get_or-map, map-append}
 use Rattle.std.proofs.lemmas.List.Elements.{All-append, All-from_recursion, All-nil}
 use Rattle.tube_spec.specs.Span.{Span, point}
-use Rattle.tube_spec.specs.Box.{cell_at}
+use Rattle.tube_spec.specs.Box.{cell_at, IsBox}
 use Rattle.tube_spec.specs.Narrowing.{Narrowing, Whole, Nothing, Within}
 use Rattle.ctc_core.proofs.Composing.{All-left, All-right}
 use Rattle.expr_values.specs.Expressions.{Expression, Constant, Entry, Unary, Binary, Comparison}
@@ -16,6 +16,7 @@ use Rattle.expr_hc4.specs.declared.nodes.Node.{Node}
 use Rattle.expr_hc4.specs.declared.nodes.Node.TheVariants as nodes
 use Rattle.expr_hc4.specs.Programs.{below, size, code_of, places_of, node_at, IsOrdered, AreOrdered, node_value, AreValues, values_below, node_values, comparison_code, comparison_places, set_two, IsProgram, IsNarrowedTo}
 use Rattle.expr_hc4.proofs.Codes.{AllFrom, AllFrom-append, AllFrom-at, IsValueOf, values-code, length-code, length-values, length-node_values, cell-seam, set-seam}
+use Rattle.expr_hc4.proofs.Unchanged.{entry_values, targets-all, places-all}
 
 -- a list that begins with another one
 begins-with : (us vs : List Span) → length us ≤ length vs → ((k : ℕ) → k < length us → cell_at vs k ≡ cell_at us k) → vs ≡ us ++ drop (length us) vs
@@ -31,7 +32,8 @@ places-among (Unary op a) i = λ k d l. omega (arith, places-among a i k d l)
 places-among (Binary op a b) i =
     All-append (λ p. p < i + size (Binary op a b)) (places_of a i) (places_of b (i + size a)) (λ k d l. omega (arith, places-among a i k d l)) (λ k d l. omega (arith, places-among b (i + size a) k d l))
 
-get-same : (vs : List Span) (k : ℕ) (d : Span) → k < length vs → cell_at vs k ≡ slice_index_or vs k d
+-- what code reads in a place
+pub get-same : (vs : List Span) (k : ℕ) (d : Span) → k < length vs → cell_at vs k ≡ slice_index_or vs k d
 get-same [] k d l = absurd (omega (arith, l))
 get-same (v ∷ vs) zero d l = refl
 get-same (v ∷ vs) (suc k) d l = get-same vs k d (omega (arith, l))
@@ -190,6 +192,24 @@ module _ (xs : List Span) (c : Comparison) (ns : List Node) (left : ℕ) (places
             let two = set-seam (set vs left x) ((values_below xs c.left ++ x ∷ []) ++ values_below xs c.right) (value_of xs c.right) y more (length ns - 1) reshaped at_right in
             let same : set (set vs left x) (length ns - 1) y ≡ us = cc in
             record { x = x; y = y; state = sym same ∙ two ∙ simp append_assoc; targets = ap₂ targets f g }
+
+    -- where the comparison left both sides as they were, each target is the value
+    pub nothing-changed : IsBox xs → (us : List Span) → BothLeft us → cell_at us left ≡ cell_at vs left → cell_at us (length ns - 1) ≡ cell_at vs (length ns - 1)
+        → (b : BothLeft us) × IsNarrowedTo true us (comparison_places c) (both (targets_of xs c.left b.x) (targets_of xs c.right b.y))
+    nothing-changed box us b p q =
+        let e : b.x ≡ value_of xs c.left = sym (cell-seam us (values_below xs c.left) b.x _ left b.state (program.left_root ∙ sym (length-values xs c.left))) ∙ p ∙ left-value in
+        let at_right : length ns - 1 ≡ length ((values_below xs c.left ++ b.x ∷ []) ++ values_below xs c.right) =
+        omega (arith, length-nodes, length-append (values_below xs c.left ++ b.x ∷ []) (values_below xs c.right), length-append (values_below xs c.left) (b.x ∷ []), length-values xs c.left, length-values xs c.right) in
+        let f : b.y ≡ value_of xs c.right = sym (cell-seam us ((values_below xs c.left ++ b.x ∷ []) ++ values_below xs c.right) b.y more (length ns - 1) (b.state ∙ simp append_assoc) at_right) ∙ q ∙ right-value in
+        let whole : us ≡ values_below xs c.left ++ (value_of xs c.left ∷ (values_below xs c.right ++ (value_of xs c.right ∷ more))) =
+        b.state ∙ ap₂ (λ (s t : Span). values_below xs c.left ++ (s ∷ (values_below xs c.right ++ (t ∷ more)))) e f in
+        let placed : map (cell_at us) (comparison_places c) ≡ entry_values xs c.left ++ entry_values xs c.right =
+        map-append (cell_at us) (places_of c.left 0) (places_of c.right (size c.left))
+        ∙ ap₂ (λ (ss ts : List Span). ss ++ ts) (places-all xs us c.left [] (node_values xs c.right ++ more) 0 refl (whole ∙ simp append_assoc))
+        (places-all xs us c.right (node_values xs c.left) more (size c.left) (sym (length-node_values xs c.left)) (whole ∙ simp append_assoc)) in
+        let targets : both (targets_of xs c.left b.x) (targets_of xs c.right b.y) ≡ Some (entry_values xs c.left ++ entry_values xs c.right) =
+        ap₂ (λ (s t : Span). both (targets_of xs c.left s) (targets_of xs c.right t)) e f ∙ ap₂ both (targets-all xs box c.left) (targets-all xs box c.right) in
+        (b, subst (λ (T : Option (List Span)). IsNarrowedTo true us (comparison_places c) T) (sym targets) (refl, placed))
 
     pub nothing-narrowed : (us ws : List Span) (b : BothLeft us) → IsNarrowedTo false ws (comparison_places c) (both (targets_of xs c.left b.x) (targets_of xs c.right b.y)) → (j : ℕ) → Nothing ≡ entry_narrowing xs c j
     nothing-narrowed us ws b h j = at (both (targets_of xs c.left b.x) (targets_of xs c.right b.y)) b.targets h

@@ -8,3 +8,4 @@ pub mod Counts
 pub mod Stable
 pub mod Nameless
 mod Examples
+pub mod Unchanged

@@ -11,7 +11,7 @@ ghost use Rattle.expr_hc4.specs.Programs.{bound_comparison};
 ghost use Rattle.expr_hc4.specs.Outcomes.{outcome_at};
 
 use super::flat::Flat;
-use super::passes::Outcome;
+use super::passes::Ending;
 use super::places::{Place, cell_of};
 use ctc_core::{Contractor, Formulas, Given, Revised, revise_by_formulas, still_by_formulas};
 use int_interval::Interval;
@@ -41,19 +41,24 @@ impl ExprCtc {
         ExprCtc { flat, place }
     }
 
-    // What the relation leaves of its leaves in the store's box.
-    fn outcome<const N: usize>(&self, store: &Store) -> Outcome<N>
+    // What the relation leaves of its leaves in the store's box: how the passes end, with the targets of the leaves where there are such.
+    fn outcome<const N: usize>(&self, store: &Store, targets: &mut [Interval]) -> Ending
         requires fits { ExprFits store.now.shape self.now.place self.now.flat.value.leaves }
         requires filled { IsSome store.now.box }
         requires nodes { length self.now.flat.value.nodes ≤ N }
         requires leaves { length self.now.flat.value.leaves ≤ N }
+        requires targets { length self.now.flat.value.leaves ≤ length targets.old }
         requires room { N ≤ 256 }
-        ensures { IfSome store.now.box (λ xs. (j : ℕ) → j < length self.now.flat.value.leaves
-            → outcome_at result.ending result.targets j ≡ entry_narrowing (entries_at (leaf_cells store.now.shape self.now.place self.now.flat.value.leaves) xs) (bound_comparison self.now.flat.value) j) }
+        ensures len { length targets.new ≡ length targets.old }
+        ensures found { IfSome store.now.box (λ xs. (j : ℕ) → j < length self.now.flat.value.leaves
+            → outcome_at result targets.new j ≡ entry_narrowing (entries_at (leaf_cells store.now.shape self.now.place self.now.flat.value.leaves) xs) (bound_comparison self.now.flat.value) j) }
     {
+        store.known();
         let leaves = self.flat.leaves();
-        let entries: [Interval; N] = intervals_of(leaves, self.place, store);
-        self.flat.outcome(&entries[..leaves.len()])
+        let unset = Interval::new(0, 0).unwrap();
+        let mut entries = [unset; N];
+        read_leaves(leaves, self.place, store, &mut entries);
+        self.flat.outcome::<N>(&entries[..leaves.len()], targets)
     }
 
     // Fires it, with room for `N` nodes.
@@ -68,11 +73,14 @@ impl ExprCtc {
         if store.is_empty() {
             return Revised::Empty;
         }
-        let outcome: Outcome<N> = self.outcome(store);
+        let unset = Interval::new(0, 0).unwrap();
+        let mut targets = [unset; N];
+        let ending = self.outcome::<N>(store, &mut targets);
         let found = Found {
             leaves: self.flat.leaves(),
             place: self.place,
-            outcome,
+            ending,
+            targets: &targets,
         };
         revise_by_formulas(&found, store)
     }
@@ -89,56 +97,58 @@ impl ExprCtc {
         if store.is_empty() {
             return false;
         }
-        let outcome: Outcome<N> = self.outcome(store);
+        let unset = Interval::new(0, 0).unwrap();
+        let mut targets = [unset; N];
+        let ending = self.outcome::<N>(store, &mut targets);
         let found = Found {
             leaves: self.flat.leaves(),
             place: self.place,
-            outcome,
+            ending,
+            targets: &targets,
         };
         still_by_formulas(&found, store)
     }
 }
 
-/// The intervals of the cells of leaves, from the left.
-fn intervals_of<const N: usize>(leaves: &[Leaf], place: Place, store: &Store) -> [Interval; N]
+/// Reads the intervals of the cells of leaves, from the left, into the first entries.
+fn read_leaves(leaves: &[Leaf], place: Place, store: &Store, entries: &mut [Interval])
     requires fits { ExprFits store.now.shape place leaves.now }
-    requires few { length leaves.now ≤ N }
-    requires room { N ≤ 256 }
+    requires few { length leaves.now ≤ length entries.old }
     requires filled { IsSome store.now.box }
-    ensures { IfSome store.now.box (λ xs. take (length leaves.now) result ≡ entries_at (leaf_cells store.now.shape place leaves.now) xs) }
+    ensures len { length entries.new ≡ length entries.old }
+    ensures read { IfSome store.now.box (λ xs. take (length leaves.now) entries.new ≡ entries_at (leaf_cells store.now.shape place leaves.now) xs) }
 {
-    let unset = Interval::new(0, 0).unwrap();
-    let mut entries = [unset; N];
     for j in 0..leaves.len() {
         entries[j] = store.get(cell_of(store, place, leaves[j]));
     }
-    entries
 }
 
 // What was found in a box, as projections on the cells of the leaves whose formulas give just that.
 #[derive(Drop)]
-struct Found<'a, const N: usize> {
+struct Found<'a> {
     leaves: &'a [Leaf],
     place: Place,
-    outcome: Outcome<N>,
+    ending: Ending,
+    // the targets of the leaves, where there are such
+    targets: &'a [Interval],
 }
 
-impl<const N: usize> Formulas for Found<'_, N> {
+impl Formulas for Found<'_> {
     ghost use Rattle.std.specs.Prelude.{◌≤◌, length};
     ghost use Rattle.expr_hc4.specs.Places.{leaf_cells, ExprFits};
     ghost use Rattle.expr_hc4.specs.Projections.{cell_projections};
     ghost use Rattle.expr_hc4.specs.Outcomes.{outcome_at};
     ghost use Rattle.expr_hc4.specs.ExprLaws.{found-monotone, found-in_store};
 
-    ghost projections = { λ c s. cell_projections (leaf_cells s c.place c.leaves.now) (λ j xs. outcome_at c.outcome.ending c.outcome.targets j) };
+    ghost projections = { λ c s. cell_projections (leaf_cells s c.place c.leaves.now) (λ j xs. outcome_at c.ending c.targets.now j) };
 
-    ghost fits = { λ c s b. ExprFits s c.place c.leaves.now × (length c.leaves.now ≤ N) × (length c.leaves.now ≤ 256) };
+    ghost fits = { λ c s b. ExprFits s c.place c.leaves.now × (length c.leaves.now ≤ length c.targets.now) × (length c.leaves.now ≤ 256) };
 
-    ghost monotone = { λ c s. found-monotone (λ xs. ExprFits s c.place c.leaves.now × (length c.leaves.now ≤ N) × (length c.leaves.now ≤ 256)) (leaf_cells s c.place c.leaves.now) (outcome_at c.outcome.ending c.outcome.targets) };
+    ghost monotone = { λ c s. found-monotone (λ xs. ExprFits s c.place c.leaves.now × (length c.leaves.now ≤ length c.targets.now) × (length c.leaves.now ≤ 256)) (leaf_cells s c.place c.leaves.now) (outcome_at c.ending c.targets.now) };
 
     ghost fits_below = { λ c s a b low fits. fits };
 
-    ghost in_store = { λ c s b shape fits. found-in_store s c.place c.leaves.now (outcome_at c.outcome.ending c.outcome.targets) shape fits.0 };
+    ghost in_store = { λ c s b shape fits. found-in_store s c.place c.leaves.now (outcome_at c.ending c.targets.now) shape fits.0 };
 
     fn count(&self, _store: &Store) -> u32 {
         self.leaves.len() as u32
@@ -149,7 +159,7 @@ impl<const N: usize> Formulas for Found<'_, N> {
     }
 
     fn given(&self, _store: &Store, i: u32) -> Given {
-        self.outcome.given(i as usize)
+        self.ending.given(self.targets, i as usize)
     }
 }
 

@@ -6,11 +6,12 @@ ghost use Rattle.expr_tree.specs.Measures.{relation_nodes};
 ghost use Rattle.expr_values.specs.Expressions.{Unary, Binary, leaves, numbered, comparison_of, relation_leaves};
 ghost use Rattle.expr_values.specs.Targets.{entry_narrowing};
 ghost use Rattle.tube_names.specs.Leaves.{first_uses};
+ghost use Rattle.tube_spec.specs.Box.{IsBox};
 ghost use Rattle.expr_hc4.specs.Programs.{below, code_of, places_of, bound_comparison};
 ghost use Rattle.expr_hc4.specs.Outcomes.{outcome_at};
 
 use super::nodes::Node;
-use super::passes::{Outcome, outcome_of};
+use super::passes::{Ending, outcome_of};
 use expr_tree::{Rel, RelOp, Term};
 use expr_values::{BinaryOp, UnaryOp};
 use int_interval::Interval;
@@ -167,14 +168,28 @@ impl Flat {
         self.nodes.len() <= room && self.leaves.len() <= room
     }
 
-    /// What the relation leaves of its names, where `entries` are their intervals, from the left. There is room for `N` nodes.
-    pub(crate) fn outcome<const N: usize>(&self, entries: &[Interval]) -> Outcome<N>
+    /// What the relation leaves of its names, where `entries` are their intervals, from the left: how the passes end, with the targets of the
+    /// names, from the left, where there are such. There is room for `N` nodes.
+    pub(crate) fn outcome<const N: usize>(
+        &self,
+        entries: &[Interval],
+        targets: &mut [Interval],
+    ) -> Ending
         requires entries { length entries.now ≡ length self.now.leaves }
         requires nodes { length self.now.nodes ≤ N }
         requires leaves { length self.now.leaves ≤ N }
+        requires targets { length self.now.leaves ≤ length targets.old }
         requires room { N ≤ 256 }
-        ensures { (j : ℕ) → j < length self.now.leaves → outcome_at result.ending result.targets j ≡ entry_narrowing entries.now (bound_comparison self.now) j }
+        requires proper { IsBox entries.now }
+        ensures { (j : ℕ) → j < length self.now.leaves → outcome_at result targets.new j ≡ entry_narrowing entries.now (bound_comparison self.now) j }
     {
-        outcome_of(self.op, &self.nodes, self.left, &self.places, entries)
+        outcome_of::<N>(
+            self.op,
+            &self.nodes,
+            self.left,
+            &self.places,
+            entries,
+            targets,
+        )
     }
 }

@@ -1,8 +1,8 @@
 //! The two passes over a flat program: up for the values, down for the targets.
 
-ghost use Rattle.std.specs.Prelude.{◌≡◌, ◌<◌, ◌≤◌, ◌++◌, ◌∷◌, ℕ, List, true, false, length, slice_index, map, MatchBool, All, Some, None};
+ghost use Rattle.std.specs.Prelude.{◌≡◌, ◌<◌, ◌≤◌, ◌++◌, ◌∷◌, ℕ, List, true, false, length, slice_index, map, MatchBool, IsTrue, All, Some, None};
 ghost use Rattle.tube_spec.specs.Span.{Span};
-ghost use Rattle.tube_spec.specs.Box.{cell_at};
+ghost use Rattle.tube_spec.specs.Box.{cell_at, IsBox};
 ghost use Rattle.expr_values.specs.Expressions.{Comparison};
 ghost use Rattle.expr_values.specs.Operators.{is_bounded};
 ghost use Rattle.expr_values.specs.Targets.{both, targets_of, entry_narrowing};
@@ -28,25 +28,16 @@ pub enum Ending {
     Within,
 }
 
-/// What a relation of at most `N` nodes leaves of its name leaves.
-#[derive(Clone, Copy, Debug)]
-pub struct Outcome<const N: usize> {
-    /// How the passes end.
-    pub ending: Ending,
-    /// The targets of the name leaves, from the left, where there are such.
-    pub targets: [Interval; N],
-}
-
-impl<const N: usize> Outcome<N> {
-    /// What is left of the name leaf with a number.
-    pub(crate) fn given(&self, i: usize) -> Given
-        requires { i < N }
-        ensures { narrowing_given result ≡ outcome_at self.now.ending self.now.targets i }
+impl Ending {
+    /// What is left of the name leaf with a number, where `targets` are those of the name leaves, from the left.
+    pub(crate) fn given(self, targets: &[Interval], i: usize) -> Given
+        requires { i < length targets.now }
+        ensures { narrowing_given result ≡ outcome_at self targets.now i }
     {
-        match self.ending {
+        match self {
             Ending::Whole => Given::Whole,
             Ending::Nothing => Given::Nothing,
-            Ending::Within => Given::Within(self.targets[i]),
+            Ending::Within => Given::Within(targets[i]),
         }
     }
 }
@@ -98,60 +89,65 @@ fn compare_sides(op: RelOp, left: usize, right: usize, values: &mut [Interval]) 
     set_two(values, left, right, left_target, right_target)
 }
 
-/// The values in some places.
-fn gathered<const N: usize>(places: &[usize], values: &[Interval]) -> [Interval; N]
-    requires few { length places.now ≤ N }
-    requires room { N ≤ 256 }
-    requires among { All (λ p. p < length values.now) places.now }
-    ensures { (j : ℕ) → j < length places.now → cell_at result j ≡ cell_at values.now (slice_index places.now j) }
+/// Whether two intervals have the same bounds.
+fn is_same(a: Interval, b: Interval) -> bool
+    ensures { IsTrue result → a ≡ b }
 {
-    let unset = Interval::new(0, 0).unwrap();
-    let mut targets = [unset; N];
+    a.lo() == b.lo() && a.hi() == b.hi()
+}
+
+/// Gathers the values in some places into the first targets.
+fn gather(places: &[usize], values: &[Interval], targets: &mut [Interval])
+    requires few { length places.now ≤ length targets.old }
+    requires among { All (λ p. p < length values.now) places.now }
+    ensures { (j : ℕ) → j < length places.now → cell_at targets.new j ≡ cell_at values.now (slice_index places.now j) }
+{
     for j in 0..places.len() {
         targets[j] = values[places[j]];
     }
-    targets
 }
 
-/// What a relation leaves of its name leaves, of which `entries` are the intervals. Its nodes are those of a program, with the root of its
-/// left side at the index `left` and its name leaves at the indices `places`.
+/// What a relation of at most `N` nodes leaves of its name leaves, of which `entries` are the intervals: how the passes end, with the targets
+/// of the name leaves, from the left, where there are such. Its nodes are those of a program, with the root of its left side at the index
+/// `left` and its name leaves at the indices `places`.
+///
+/// Where the comparison narrows neither side, each node's value is its target, and there is no pass down.
 pub(crate) fn outcome_of<const N: usize>(
     op: RelOp,
     nodes: &[Node],
     left: usize,
     places: &[usize],
     entries: &[Interval],
-) -> Outcome<N>
+    targets: &mut [Interval],
+) -> Ending
     requires program { IsProgram nodes.now left places.now (program_comparison op nodes.now left) }
     requires ordered { AreOrdered (length entries.now) nodes.now }
     requires nodes { length nodes.now ≤ N }
     requires few { length places.now ≤ N }
+    requires targets { length places.now ≤ length targets.old }
     requires room { N ≤ 256 }
     requires each { length entries.now ≡ length places.now }
-    ensures { (j : ℕ) → j < length places.now → outcome_at result.ending result.targets j ≡ entry_narrowing entries.now (program_comparison op nodes.now left) j }
+    requires proper { IsBox entries.now }
+    ensures { (j : ℕ) → j < length places.now → outcome_at result targets.new j ≡ entry_narrowing entries.now (program_comparison op nodes.now left) j }
 {
     let unset = Interval::new(0, 0).unwrap();
     let mut values = [unset; N];
     if !evaluate(nodes, entries, &mut values) {
-        return Outcome {
-            ending: Ending::Whole,
-            targets: values,
-        };
+        return Ending::Whole;
     }
-    if !compare_sides(op, left, nodes.len() - 1, &mut values) {
-        return Outcome {
-            ending: Ending::Nothing,
-            targets: values,
-        };
+    let right = nodes.len() - 1;
+    let left_value = values[left];
+    let right_value = values[right];
+    if !compare_sides(op, left, right, &mut values) {
+        return Ending::Nothing;
+    }
+    if is_same(values[left], left_value) && is_same(values[right], right_value) {
+        gather(places, &values, targets);
+        return Ending::Within;
     }
     if !narrow(nodes, &mut values) {
-        return Outcome {
-            ending: Ending::Nothing,
-            targets: values,
-        };
+        return Ending::Nothing;
     }
-    Outcome {
-        ending: Ending::Within,
-        targets: gathered(places, &values),
-    }
+    gather(places, &values, targets);
+    Ending::Within
 }

@@ -4,4 +4,4 @@ use Rattle.expr_hc4.proofs.Counts.{projections-count}
 use Rattle.expr_hc4.proofs.contractor.FoundFormulas.count.Goals as goal
 
 pub returns : goal.returns
-returns g c = sym (projections-count c.args._store.now.shape c.args.self.now.place c.args.self.now.leaves.now (λ j xs. outcome_at c.args.self.now.outcome.ending c.args.self.now.outcome.targets j))
+returns c = sym (projections-count c.args._store.now.shape c.args.self.now.place c.args.self.now.leaves.now (λ j xs. outcome_at c.args.self.now.ending c.args.self.now.targets.now j))

@@ -4,10 +4,10 @@ use Rattle.expr_hc4.proofs.Counts.{among-leaves, target-at}
 use Rattle.expr_hc4.proofs.contractor.FoundFormulas.target.Goals as goal
 
 pub bounds-self-i : goal.bounds-self-i
-bounds-self-i g c = among-leaves c.args.store.now.shape c.args.self.now.place c.args.self.now.leaves.now (λ j xs. outcome_at c.args.self.now.outcome.ending c.args.self.now.outcome.targets j) c.args.i c.requires.below
+bounds-self-i c = among-leaves c.args.store.now.shape c.args.self.now.place c.args.self.now.leaves.now (λ j xs. outcome_at c.args.self.now.ending c.args.self.now.targets.now j) c.args.i c.requires.below
 
 pub cell_of-requires : goal.cell_of-requires
-cell_of-requires g c = c.requires.fits.0 c.args.i _ (among-leaves c.args.store.now.shape c.args.self.now.place c.args.self.now.leaves.now (λ j xs. outcome_at c.args.self.now.outcome.ending c.args.self.now.outcome.targets j) c.args.i c.requires.below)
+cell_of-requires c = c.requires.fits.0 c.args.i _ (among-leaves c.args.store.now.shape c.args.self.now.place c.args.self.now.leaves.now (λ j xs. outcome_at c.args.self.now.ending c.args.self.now.targets.now j) c.args.i c.requires.below)
 
 pub returns : goal.returns
-returns g c = c.cell_of.ensures.cell ∙ target-at c.args.store.now.shape c.args.self.now.place c.args.self.now.leaves.now (λ j xs. outcome_at c.args.self.now.outcome.ending c.args.self.now.outcome.targets j) c.args.i c.requires.below
+returns c = c.cell_of.ensures.cell ∙ target-at c.args.store.now.shape c.args.self.now.place c.args.self.now.leaves.now (λ j xs. outcome_at c.args.self.now.ending c.args.self.now.targets.now j) c.args.i c.requires.below
