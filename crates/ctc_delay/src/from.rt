@@ -3,17 +3,16 @@
 ghost use Rattle.std.specs.Prelude.{◌≡◌, ◌+◌, ◌<◌, ◌≤◌, IsSome, IfSome, map, slice_index};
 ghost use Rattle.std.specs.List.{range_with_len};
 ghost use Rattle.ctc_core.specs.Answers.{Revises};
+ghost use Rattle.ctc_core.specs.Checking.{Checks};
 ghost use Rattle.ctc_delay.specs.Delays.{delay_from_at, delay_from_projections, DelayFits};
 ghost use Rattle.ctc_delay.specs.Places.{place_count};
 ghost use Rattle.ctc_delay.specs.Windows.{IsWindowOf};
 
 use super::delays::{delays_in, given_of, later};
-use super::held::{held_from, hold_given};
+use super::held::{held_from, hold_given, is_each_held, is_held_given};
 use super::places::{cell_at_place, place_count, ticks_at};
 use super::windows::Window;
-use ctc_core::{
-    Contractor, Formulas, Given, Revised, revise_by_formulas, start, still_by_formulas,
-};
+use ctc_core::{Contractor, Formulas, Given, Revised, revise_by_formulas, start};
 use std::sync::ledger::Ledger;
 use step_count::Steps;
 use tube_store::{CellId, SignalId, Store, VarId};
@@ -104,6 +103,47 @@ impl DelayFrom {
         }
         answer
     }
+
+    // Whether the box is stable under the projections of places from one on, as many as are found at once, and says of how many.
+    fn holds_some(&self, store: &Store, first: u32) -> (bool, u32)
+        requires fits { DelayFits store.now.shape self.now.x.0 self.now.y.0 self.now.tau.0 }
+        requires first { first < place_count store.now.shape.grid }
+        requires filled { IsSome store.now.box }
+        ensures checks { let s = store.now.shape in
+            Checks (map (delay_from_at s.grid (slice_index s.signals self.now.x.0) (slice_index s.signals self.now.y.0) (slice_index s.vars self.now.tau.0)) (range_with_len first result.1)) store.now.box result.0 }
+        ensures some { 0 < result.1 }
+        ensures among { first + result.1 ≤ place_count store.now.shape.grid }
+    {
+        match self.window(store, first) {
+            Some(window) => {
+                let held = held_from(window, store, self.x, first);
+                (is_each_held(&held, store), held.count)
+            }
+            None => {
+                let cell = cell_at_place(store, self.x, first);
+                let given = self.given(store, first);
+                (is_held_given(store, cell, given), 1)
+            }
+        }
+    }
+
+    // Whether the box is stable under each projection.
+    fn holds(&self, store: &Store) -> bool
+        requires fits { DelayFits store.now.shape self.now.x.0 self.now.y.0 self.now.tau.0 }
+        requires filled { IsSome store.now.box }
+        ensures { Checks (delay_from_projections store.now.shape self.now.x.0 self.now.y.0 self.now.tau.0) store.now.box result }
+    {
+        let count = place_count(store);
+        let mut done = 0;
+        while done < count {
+            let (holds, here) = self.holds_some(store, done);
+            if !holds {
+                return false;
+            }
+            done += here;
+        }
+        true
+    }
 }
 
 impl Formulas for DelayFrom {
@@ -192,6 +232,10 @@ impl Contractor for DelayFrom {
 
     fn still<L: Ledger>(&self, store: &Store, steps: &mut Steps<L>) -> bool {
         steps.tick();
-        still_by_formulas(self, store)
+        store.known();
+        if store.is_empty() {
+            return false;
+        }
+        !self.holds(store)
     }
 }

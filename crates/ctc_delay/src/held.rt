@@ -6,13 +6,14 @@ ghost use Rattle.tube_spec.specs.Grid.{last_tick};
 ghost use Rattle.tube_spec.specs.Tick.{tick_place};
 ghost use Rattle.tube_spec.specs.Projection.{Projection};
 ghost use Rattle.ctc_core.specs.Answers.{Revises, IsMonotoneBelow};
+ghost use Rattle.ctc_core.specs.Checking.{Checks};
 ghost use Rattle.ctc_core.specs.Given.{narrowing_given};
 ghost use Rattle.ctc_delay.specs.Places.{place_count};
-ghost use Rattle.ctc_delay.specs.Windows.{window_first, window_last, WindowFits, signal_at, IsOver, IsOverWindow, HeldFits};
+ghost use Rattle.ctc_delay.specs.Windows.{window_first, window_last, WindowFits, signal_at, IsOver, IsOverWindow, HeldFits, held_projections};
 
 use super::places::{cell_at_place, interval_at};
 use super::windows::{Window, carried_on};
-use ctc_core::{Formulas, Given, Revised, hold, start};
+use ctc_core::{Formulas, Given, Revised, hold, is_held, start, still_by_formulas};
 use int_interval::Interval;
 use tube_store::{CellId, SignalId, Store};
 
@@ -210,5 +211,28 @@ pub fn hold_given(store: &mut Store, cell: CellId, given: Given) -> Revised
         Given::Whole => start(store),
         Given::Nothing => hold(store, cell, None),
         Given::Within(to) => hold(store, cell, Some(to)),
+    }
+}
+
+/// Whether the box is stable under the projections of held places.
+pub fn is_each_held(held: &Held, store: &Store) -> bool
+    requires fits { HeldFits store.now.shape held.now }
+    requires filled { IsSome store.now.box }
+    ensures { Checks (held_projections store.now.shape held.now) store.now.box result }
+{
+    store.known();
+    !still_by_formulas(held, store)
+}
+
+/// Whether the box is stable under one projection, by what its formula gives of the box.
+pub fn is_held_given(store: &Store, cell: CellId, given: Given) -> bool
+    requires named { cell.0 < store.now.shape.cells }
+    requires filled { IsSome store.now.box }
+    ensures { (p : Projection) → p.target ≡ cell.0 → IfSome store.now.box (λ xs. p.formula xs ≡ narrowing_given given) → Checks (p ∷ []) store.now.box result }
+{
+    match given {
+        Given::Whole => true,
+        Given::Nothing => false,
+        Given::Within(to) => is_held(store, cell, Some(to)),
     }
 }
