@@ -1,7 +1,7 @@
 -- Who waits, counted and sought.
-use Rattle.std.proofs.Common.{◌≡◌, ℕ, ◌+◌, ◌*◌, ◌<◌, ◌≤◌, Bool, true, false, cond, Some, List, IsFalse, All, arith, sym, ap, ◌∙◌, length, get_or, slice_get, set, count_by}
+use Rattle.std.proofs.Common.{◌≡◌, ℕ, ◌+◌, ◌-◌, ◌*◌, ◌<◌, ◌≤◌, Bool, true, false, cond, Some, List, IsFalse, All, arith, refl, sym, ap, ◌∙◌, length, get_or, slice_get, set, take, count_by}
 use Rattle.std.proofs.lemmas.Option.{slice_get-get_or}
-use Rattle.std.proofs.lemmas.List.Sums.{sum_by-set, count_by-le-length}
+use Rattle.std.proofs.lemmas.List.Sums.{sum_by-set, count_by-le-length, count_by_more_no, count_by_more_yes}
 use Rattle.std.proofs.Math.Nat.{mul-le-mul_right}
 
 -- where no number waits, all rest
@@ -51,3 +51,46 @@ left-rested m n k before after same e waits l len =
   where
     sums : (a b c d e : ℕ) → a ≡ b → c ≡ d → d + 1 ≡ e → a + c < b + e
     sums a b c d e p q r = omega arith
+
+-- One more was asked whether it still narrows: that takes a step at most, and none where it doesn't wait.
+pub count-asked : (ws : List Bool) (k start before now : ℕ) → k < length ws → before ≤ start + count_by (λ w. w) (take k ws) → now ≤ before + 1 → (slice_get ws k ≡ Some false → now ≡ before)
+    → now ≤ start + count_by (λ w. w) (take (k + 1) ws)
+count-asked ws k start before now l so one quiet = at (get_or ws k false) refl
+  where
+    at : (b : Bool) → get_or ws k false ≡ b → now ≤ start + count_by (λ w. w) (take (k + 1) ws)
+    at true e = omega (arith, count_by_more_yes (λ (w : Bool). w) ws k false l e, so, one)
+    at false e = omega (arith, count_by_more_no (λ (w : Bool). w) ws k false l e, so, quiet (slice_get-get_or ws k false l ∙ ap Some e))
+
+apart : (n a b : ℕ) → b ≤ a → a * (n + 1) ≡ (a - b) * (n + 1) + b * (n + 1)
+apart n a b h = ap (λ (x : ℕ). x * (n + 1)) whole ∙ split (a - b)
+  where
+    whole : a ≡ (a - b) + b
+    whole = omega (arith, h)
+
+    split : (d : ℕ) → (d + b) * (n + 1) ≡ d * (n + 1) + b * (n + 1)
+    split d = omega arith
+
+-- The steps of a run whose steps and what may still come never rose together, with some more that are covered by who waits at its end.
+pub run-bound : (n start now end m b : ℕ) (before after : List Bool) → length before ≡ n → length after ≡ n → b ≤ m
+    → now + left_over b after ≤ start + left_over m before → end ≤ now + count_by (λ w. w) after
+    → end ≤ start + count_by (λ w. w) before + (m - b) * (n + 1)
+run-bound n start now end m b before after p q low h more =
+    sums (m * (n + 1)) (b * (n + 1)) ((m - b) * (n + 1)) (m * (length before + 1)) (b * (length after + 1)) (count_by (λ w. w) before) (count_by (λ w. w) after) (apart n m b low)
+    (ap (λ (x : ℕ). m * (x + 1)) p) (ap (λ (x : ℕ). b * (x + 1)) q) h more
+  where
+    sums : (x y d xb yb co cn : ℕ) → x ≡ d + y → xb ≡ x → yb ≡ y → now + (yb + cn) ≤ start + (xb + co) → end ≤ now + cn → end ≤ start + co + d
+    sums x y d xb yb co cn e f g k t = omega arith
+
+-- the same of a run whose last firing emptied the box: the one that was fired waits still
+pub emptied-bound : (n start now end m b e k : ℕ) (before ws : List Bool) → length before ≡ n → length ws ≡ n → b ≤ m → e ≤ b
+    → now + left_over b ws ≤ start + left_over m before → end ≡ now + 1 → slice_get ws k ≡ Some true → k < length ws
+    → end ≤ start + count_by (λ w. w) before + (m - e) * (n + 1)
+emptied-bound n start now end m b e k before ws p q low less h one waits l =
+    run-bound n start now end m e before ws p q (omega (arith, low, less)) (fewer (e * (length ws + 1)) (b * (length ws + 1)) (start + left_over m before) (mul-le-mul_right (length ws + 1) less) h) (omega (arith, one, count-rests ws k waits l))
+  where
+    fewer : (x y z : ℕ) → x ≤ y → now + (y + count_by (λ w. w) ws) ≤ z → now + (x + count_by (λ w. w) ws) ≤ z
+    fewer x y z t u = omega (arith, t, u)
+
+-- steps and what may still come, one firing further
+pub fewer-left : (s t a b z : ℕ) → s + a ≤ z → t ≡ s + 1 → b < a → t + b ≤ z
+fewer-left s t a b z h e l = omega arith

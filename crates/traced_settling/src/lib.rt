@@ -4,7 +4,7 @@
 //! start lies below the box at the end.
 #![tactic(auto)]
 
-ghost use Rattle.std.specs.Prelude.{◌≡◌, ◌≢◌, ◌+◌, ◌<◌, ◌≤◌, ℕ, Option, Some, None, true, false, IsSome, IsNone, IsTrue, IsFalse, IfSome, IfOk, OnErr, All, length, slice_get, flat_map};
+ghost use Rattle.std.specs.Prelude.{◌≡◌, ◌≢◌, ◌+◌, ◌-◌, ◌*◌, ◌<◌, ◌≤◌, ℕ, [], Option, Some, None, true, false, IsSome, IsNone, IsTrue, IsFalse, IfSome, IfOk, OnErr, All, length, count_by, slice_get, flat_map};
 ghost use Rattle.tube_spec.specs.Fixpoint.{IsFixpoint};
 ghost use Rattle.tube_spec.specs.Box.{measure_of};
 ghost use Rattle.ctc_network.specs.Nets.{IsThere, of_place};
@@ -27,10 +27,12 @@ pub struct Traced {
 /// Fires the contractors that wait, in rounds of rising numbers, until none waits, the box is empty, or so many firings as `most` have
 /// narrowed it.
 ///
-/// Then a contractor is sought that still narrows the box: where there is one, the answer is `Spent` with it, and else `Fixpoint`. So
-/// `Spent` never comes where `most` is above the measure at the start. After `Empty` every later call answers `Empty` and lists nothing.
+/// Then a contractor is sought that still narrows the box: where there is one, the answer is `Spent` with it, and else `Fixpoint`. Each
+/// listed firing took one from the measure at least, the sum of the widths of all cells, so `Spent` never comes where `most` is above the
+/// measure at the start. After `Empty` every later call answers `Empty`, with no step, and lists nothing.
 ///
-/// It takes memory for the list alone. Where that is refused, the box lost no common fixpoint, and the net may be settled again.
+/// The steps are at most as many as waited, and what the measure fell times one more than the numbers of the net. It takes memory for the
+/// list alone. Where that is refused, the box lost no common fixpoint, and the net may be settled again.
 pub fn settle_traced<C: Parted + Drop, L: Ledger>(
     alloc: Global,
     net: &mut Net<C>,
@@ -42,6 +44,10 @@ pub fn settle_traced<C: Parted + Drop, L: Ledger>(
     ensures settled { IfOk result (λ t. SettlesAs (λ c. of_place C.projections c net.old.store.shape) net.old.contractors most net.old.store net.new.store t.settled) }
     ensures there { IfOk result (λ t. All (λ id. IsThere net.old.contractors id.0) t.fired.items) }
     ensures few { IfOk result (λ t. length t.fired.items ≤ most) }
+    ensures spent { IfOk result (λ t. (id : CtcId) → t.settled ≡ Settled.Spent id → length t.fired.items ≡ most) }
+    ensures measured { IfOk result (λ t. IsSome net.new.store.box → measure_of net.new.store.box + length t.fired.items ≤ measure_of net.old.store.box) }
+    ensures emptied { IsNone net.old.store.box → IfOk result (λ t. (t.settled ≡ Settled.Empty) × (t.fired.items ≡ [])) × (net.new ≡ net.old) × (steps.new ≡ steps.old) }
+    ensures bound { steps.new ≤ steps.old + count_by (λ w. w) net.old.waiting + (measure_of net.old.store.box - measure_of net.new.store.box) * (length net.old.contractors + 1) }
     ensures enough { IfOk result (λ t. IsNarrowedBy (flat_map (λ c. of_place C.projections c net.old.store.shape) (contractors_at net.old.contractors t.fired.items)) net.old.store net.new.store) }
 {
     let mut fired = Vec::new(alloc);
@@ -51,6 +57,7 @@ pub fn settle_traced<C: Parted + Drop, L: Ledger>(
             fired,
         });
     }
+    net.known();
     let mut from = 0;
     while let Some(id) = next_waiting(net, from) {
         net.known();
@@ -111,7 +118,9 @@ fn sought<C: Parted + Drop, L: Ledger>(net: &Net<C>, steps: &mut Steps<L>) -> Se
     ensures spent { (id : CtcId) → result ≡ Settled.Spent id → StillNarrows (λ c. of_place C.projections c net.now.store.shape) net.now.contractors net.now.store.box id.0 }
     ensures rests { result ≡ Settled.Fixpoint → (k : ℕ) (c : Option C) → slice_get net.now.contractors k ≡ Some c → IfSome net.now.store.box (IsFixpoint (of_place C.projections c net.now.store.shape)) }
     ensures never { result ≢ Settled.Empty }
+    ensures bound { steps.new ≤ steps.old + count_by (λ w. w) net.now.waiting }
 {
+    net.known();
     for number in 0..net.numbers() {
         if narrows(net, CtcId(number), steps) {
             return Settled::Spent(CtcId(number));
@@ -126,6 +135,8 @@ fn narrows<C: Parted + Drop, L: Ledger>(net: &Net<C>, id: CtcId, steps: &mut Ste
     requires number { id.0 < length net.now.contractors }
     ensures yes { IsTrue result → StillNarrows (λ c. of_place C.projections c net.now.store.shape) net.now.contractors net.now.store.box id.0 }
     ensures no { IsFalse result → (c : Option C) → slice_get net.now.contractors id.0 ≡ Some c → IfSome net.now.store.box (IsFixpoint (of_place C.projections c net.now.store.shape)) }
+    ensures step { steps.new ≤ steps.old + 1 }
+    ensures quiet { slice_get net.now.waiting id.0 ≡ Some false → steps.new ≡ steps.old }
 {
     net.known();
     net.waits(id) && net.contractor(id).still(net.store(), steps)
