@@ -19,11 +19,13 @@
 
 mod hulls;
 mod laws;
+mod pair;
 mod ranges;
 mod ticks;
 mod tree;
 
 pub use laws::{possible_law, sure_law};
+pub use pair::{PairSays, pair_of};
 pub use ticks::ticks_of;
 pub use tree::{HullTree, Judged};
 pub use tube_names::{Norm, Query, is_near};
