@@ -6,9 +6,11 @@ use Rattle.std.proofs.lemmas.List.{get_or_past}
 use Rattle.tplane_paver.specs.declared.runs.Run.{Run}
 use Rattle.tplane_paver.specs.Runs.{run_at, IsBefore, AreInOrder}
 use Rattle.tplane_paver.specs.Components.{set_at, HasRun}
-use Rattle.tplane_paver.specs.Forests.{Joined, Maps, Touching, IsParent, GoDown, AddsRun, AreGathered}
-use Rattle.tplane_paver.proofs.Ways.{joined-then, joined-back, joined-self}
-use Rattle.tplane_paver.proofs.Trees.{same-or}
+use Rattle.disjoint_sets.specs.Ways.{Joined, Maps}
+use Rattle.disjoint_sets.specs.Trees.{IsParent, GoDown}
+use Rattle.disjoint_sets.proofs.Ways.{joined-then, joined-back, joined-self}
+use Rattle.disjoint_sets.proofs.Trees.{same-or}
+use Rattle.tplane_paver.specs.Forests.{Touching, AddsRun, AreGathered}
 use Rattle.tplane_paver.proofs.Sweeps.{below-or-same}
 
 -- a list of runs with one more at its end

@@ -6,8 +6,6 @@ pub mod Squares
 pub mod Filling
 pub mod Lists
 pub mod Roots
-pub mod Ways
-pub mod Trees
 pub mod Sweeps
 pub mod Gathering
 pub mod Reaching

@@ -3,7 +3,9 @@ use Rattle.std.proofs.Common.{◌≡◌, ℕ, zero, suc, ◌+◌, ◌-◌, ◌<�
 use Rattle.tplane_paver.specs.declared.runs.Run.{Run}
 use Rattle.tplane_paver.specs.Runs.{InRun, InRuns, run_at, AreInOrder}
 use Rattle.tplane_paver.specs.Components.{IsBeside, Reaches, set_at, AreComponents}
-use Rattle.tplane_paver.specs.Forests.{Touch, Touching, Way, IsParent, IsSwept, AreGathered}
+use Rattle.disjoint_sets.specs.Ways.{Way}
+use Rattle.disjoint_sets.specs.Trees.{IsParent}
+use Rattle.tplane_paver.specs.Forests.{Touch, Touching, IsSwept, AreGathered}
 
 split : (x y : ℕ) → (x ≤ y) ⊎ (y < x)
 split x y = grind arith

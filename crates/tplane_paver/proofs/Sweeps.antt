@@ -3,8 +3,10 @@ use Rattle.std.proofs.Common.{◌≡◌, ℕ, ◌+◌, ◌<◌, ◌≤◌, ◌�
 use Rattle.std.proofs.Math.Seq.{take-append_seam}
 use Rattle.tplane_paver.specs.declared.runs.Run.{Run}
 use Rattle.tplane_paver.specs.Runs.{run_at, IsBefore, AreInOrder}
-use Rattle.tplane_paver.specs.Forests.{Touch, IsClearOf, Touching, Joined, Maps, IsParent, IsParentOr, JoinsTrees, IsSweptTo, IsSwept}
-use Rattle.tplane_paver.proofs.Ways.{joined-self, joined-step, joined-map}
+use Rattle.disjoint_sets.specs.Ways.{Joined, Maps}
+use Rattle.disjoint_sets.specs.Trees.{IsParent, IsParentOr, JoinsTrees}
+use Rattle.disjoint_sets.proofs.Ways.{joined-self, joined-step, joined-map}
+use Rattle.tplane_paver.specs.Forests.{Touch, IsClearOf, Touching, IsSweptTo, IsSwept}
 
 split : (x y : ℕ) → (x < y) ⊎ (y ≤ x)
 split x y = grind arith

@@ -1,5 +1,7 @@
--- Trees of runs that hang together: each number has a parent, and the root of a tree is its own.
-use Rattle.std.specs.Prelude.{◌≡◌, ◌≢◌, ℕ, zero, suc, ◌+◌, ◌<◌, ◌≤◌, ◌⊎◌, List, [], ◌∷◌, ◌++◌, length, slice_index}
+-- Trees of runs that hang together.
+use Rattle.std.specs.Prelude.{◌≡◌, ◌≢◌, ℕ, ◌+◌, ◌<◌, ◌≤◌, ◌⊎◌, List, [], ◌∷◌, ◌++◌, length, slice_index}
+use Rattle.disjoint_sets.specs.Ways.{Joined, Maps}
+use Rattle.disjoint_sets.specs.Trees.{IsParent, GoDown}
 use Rattle.tplane_paver.specs.declared.runs.Run.{Run}
 use Rattle.tplane_paver.specs.Runs.{run_at, IsBefore, AreInOrder}
 use Rattle.tplane_paver.specs.Components.{set_at, HasRun}
@@ -19,45 +21,6 @@ pub record IsClearOf (r s : Run) : Type 0 where
 -- two runs of a list touch
 abbrev pub Touching : List Run → ℕ → ℕ → Type 0
 Touching runs i j = (i < length runs) × (j < length runs) × Touch (run_at runs i) (run_at runs j)
-
--- a way of n steps from i to j, each forth or back
-abbrev pub Way : (ℕ → ℕ → Type 0) → ℕ → ℕ → ℕ → Type 0
-Way T zero i j = i ≡ j
-Way T (suc n) i j = (k : ℕ) × (T i k ⊎ T k i) × Way T n k j
-
-abbrev pub Joined : (ℕ → ℕ → Type 0) → ℕ → ℕ → Type 0
-Joined T i j = (n : ℕ) × Way T n i j
-
--- what the one relation joins at one step, the other joins
-abbrev pub Maps : (ℕ → ℕ → Type 0) → (ℕ → ℕ → Type 0) → Type 0
-Maps S T = (i j : ℕ) → S i j → Joined T i j
-
-abbrev pub IsParent : List ℕ → ℕ → ℕ → Type 0
-IsParent parents i j = (i < length parents) × (slice_index parents i ≡ j)
-
--- no parent is above its child
-abbrev pub GoDown : List ℕ → Type 0
-GoDown parents = (i : ℕ) → i < length parents → slice_index parents i ≤ i
-
--- Other parents, but the same trees with the same roots.
-pub record KeepsTrees (old new : List ℕ) : Type 0 where
-  pub len : length new ≡ length old
-  pub down : GoDown new
-  pub roots : (i : ℕ) → slice_index old i ≡ i → slice_index new i ≡ i
-  pub there : Maps (IsParent old) (IsParent new)
-  pub back : Maps (IsParent new) (IsParent old)
-
--- the parents, and one edge more
-abbrev pub IsParentOr : List ℕ → ℕ → ℕ → ℕ → ℕ → Type 0
-IsParentOr parents i j x y = IsParent parents x y ⊎ ((x ≡ i) × (y ≡ j))
-
--- The trees of i and of j are one tree, and no others are joined.
-pub record JoinsTrees (old new : List ℕ) (i j : ℕ) : Type 0 where
-  pub len : length new ≡ length old
-  pub down : GoDown new
-  pub joined : Joined (IsParent new) i j
-  pub there : Maps (IsParent old) (IsParent new)
-  pub back : Maps (IsParent new) (IsParentOr old i j)
 
 -- The trees join only runs that hang together, and those below m that touch are joined, and of those below i each that touches m.
 pub record IsSweptTo (runs : List Run) (parents : List ℕ) (m i : ℕ) : Type 0 where

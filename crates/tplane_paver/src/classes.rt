@@ -3,7 +3,8 @@
 ghost use Rattle.std.specs.Prelude.{◌≡◌, ◌≢◌, ℕ, ◌+◌, ◌-◌, ◌++◌, [], ◌∷◌, ◌<◌, ◌≤◌, IfOk, OnOk, length, slice_index};
 ghost use Rattle.tplane_paver.specs.Runs.{AreInOrder, IsBefore, run_at, pair_count};
 ghost use Rattle.tplane_paver.specs.Components.{AreComponents, SpansA, SpansB, set_at};
-ghost use Rattle.tplane_paver.specs.Forests.{GoDown, IsSwept, AddsRun};
+ghost use Rattle.disjoint_sets.specs.Trees.{GoDown};
+ghost use Rattle.tplane_paver.specs.Forests.{IsSwept, AddsRun};
 ghost use Rattle.tplane_paver.specs.declared.runs.Run.{Run};
 ghost use Rattle.tube_spec.specs.Limits.{most_runs};
 

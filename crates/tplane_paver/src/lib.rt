@@ -15,7 +15,6 @@
 #![tactic(auto)]
 
 mod classes;
-mod forest;
 mod paving;
 mod rows;
 mod runs;

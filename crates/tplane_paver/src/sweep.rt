@@ -5,8 +5,8 @@ ghost use Rattle.tplane_paver.specs.Runs.{AreInOrder, run_at};
 ghost use Rattle.tplane_paver.specs.Forests.{Touch, IsClearOf, IsSwept};
 ghost use Rattle.tube_spec.specs.Limits.{most_runs};
 
-use crate::forest::{alone, join};
 use crate::runs::Run;
+use disjoint_sets::{alone, join};
 use std::alloc::{AllocError, Global};
 
 /// A forest of the runs, in which two are in one tree exactly where they hang together. Neighbouring rows are gone through side by side,
@@ -16,7 +16,7 @@ pub fn linked(alloc: Global, runs: &[Run]) -> Result<Vec<u32>, AllocError>
     requires order { AreInOrder runs.now }
     ensures { IfOk result (λ v. IsSwept runs.now v.items (length runs.now)) }
 {
-    let mut parents = alone(alloc, runs.len())?;
+    let mut parents = alone(alloc, runs.len() as u32)?;
     let mut low = 0;
     for j in 0..runs.len() {
         low = first_near(runs, low, j);

@@ -1,6 +1,6 @@
 use Rattle.std.proofs.Common.{refl, slice_index, slice_set}
-use Rattle.tplane_paver.proofs.Trees.{keeps-halved, written-set}
-use Rattle.tplane_paver.proofs.forest.halve.Goals as goal
+use Rattle.disjoint_sets.proofs.Trees.{keeps-halved, written-set}
+use Rattle.disjoint_sets.proofs.forest.halve.Goals as goal
 
 pub returns-clause-keeps : goal.returns-clause-keeps
 returns-clause-keeps c =

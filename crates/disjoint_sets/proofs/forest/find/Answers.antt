@@ -1,8 +1,8 @@
 use Rattle.std.proofs.Common.{arith, refl}
-use Rattle.tplane_paver.specs.Forests.{IsParent}
-use Rattle.tplane_paver.proofs.Ways.{joined-self}
-use Rattle.tplane_paver.proofs.Trees.{keeps-self, keeps-trans, joined-on}
-use Rattle.tplane_paver.proofs.forest.find.Goals as goal
+use Rattle.disjoint_sets.specs.Trees.{IsParent}
+use Rattle.disjoint_sets.proofs.Ways.{joined-self}
+use Rattle.disjoint_sets.proofs.Trees.{keeps-self, keeps-trans, joined-on}
+use Rattle.disjoint_sets.proofs.forest.find.Goals as goal
 
 pub loop-parents-init : goal.loop-parents-init
 loop-parents-init c = record { keeps = keeps-self c.args.parents.now c.requires.down; within = c.requires.within; joined = joined-self (IsParent c.args.parents.now) c.args.from c.args.from refl }

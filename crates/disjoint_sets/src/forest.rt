@@ -1,26 +1,24 @@
 //! Trees of numbers that hang together.
 
-ghost use Rattle.std.specs.Prelude.{◌≡◌, ◌≢◌, ℕ, ◌<◌, ◌≤◌, IfOk, length, slice_index};
-ghost use Rattle.tplane_paver.specs.Forests.{Joined, IsParent, GoDown, KeepsTrees, JoinsTrees};
-ghost use Rattle.tube_spec.specs.Limits.{most_runs};
+ghost use Rattle.std.specs.Prelude.{◌≡◌, ◌≢◌, ◌↔◌, ℕ, ◌<◌, IsTrue, IfOk, length, slice_index};
+ghost use Rattle.disjoint_sets.specs.Ways.{Joined};
+ghost use Rattle.disjoint_sets.specs.Trees.{AreInOne, IsParent, GoDown, KeepsTrees, JoinsTrees};
 
 use std::alloc::{AllocError, Global};
 
-/// Each number by itself, in a tree of its own.
-pub fn alone(alloc: Global, count: usize) -> Result<Vec<u32>, AllocError>
-    requires { count ≤ most_runs }
+/// Each number below a count by itself, in a tree of its own.
+pub fn alone(alloc: Global, count: u32) -> Result<Vec<u32>, AllocError>
     ensures len { IfOk result (λ v. length v.items ≡ count) }
     ensures own { IfOk result (λ v. (k : ℕ) → k < count → slice_index v.items k ≡ k) }
 {
     let mut parents = Vec::with_capacity(alloc, count)?;
     for k in 0..count {
-        parents.push(k as u32)?;
+        parents.push(k)?;
     }
     Ok(parents)
 }
 
-/// Makes one tree of those of two numbers: the greater root gets the lesser one as its parent. The forest is that of Galler and Fischer
-/// ("An improved equivalence algorithm", 1964).
+/// Makes one tree of those of two numbers: the greater root gets the lesser one as its parent. No other numbers hang together by it.
 pub fn join(parents: &mut [u32], i: u32, j: u32)
     requires i { i < length parents.old }
     requires j { j < length parents.old }
@@ -32,9 +30,22 @@ pub fn join(parents: &mut [u32], i: u32, j: u32)
     parents[a.max(b) as usize] = a.min(b);
 }
 
-/// The root of a number. On the way each second number gets its parent's parent (Tarjan, van Leeuwen, "Worst-case analysis of set union
-/// algorithms", 1984).
-fn find(parents: &mut [u32], from: u32) -> u32
+/// Whether two numbers hang together. The trees stay, and their roots.
+pub fn are_joined(parents: &mut [u32], i: u32, j: u32) -> bool
+    requires i { i < length parents.old }
+    requires j { j < length parents.old }
+    requires down { GoDown parents.old }
+    ensures keeps { KeepsTrees parents.old parents.new }
+    ensures joined { IsTrue result ↔ AreInOne parents.new i j }
+{
+    let a = find(parents, i);
+    let b = find(parents, j);
+    a == b
+}
+
+/// The root of a number, which is the same for all that hang together with it. The trees stay, and their roots; on the way each second number
+/// gets its parent's parent, so that later ways are shorter (Tarjan, van Leeuwen, "Worst-case analysis of set union algorithms", 1984).
+pub fn find(parents: &mut [u32], from: u32) -> u32
     requires within { from < length parents.old }
     requires down { GoDown parents.old }
     ensures keeps { KeepsTrees parents.old parents.new }
@@ -49,7 +60,7 @@ fn find(parents: &mut [u32], from: u32) -> u32
     at
 }
 
-/// Gives a number that is no root its parent's parent.
+// Gives a number that is no root its parent's parent.
 fn halve(parents: &mut [u32], at: u32) -> u32
     requires within { at < length parents.old }
     requires down { GoDown parents.old }

@@ -1,6 +1,6 @@
 use Rattle.std.proofs.Common.{◌<◌, length, arith, ap, slice_set, max, min, ℕ, ◌∙◌}
-use Rattle.tplane_paver.proofs.Trees.{joins-found, written-set, max-below}
-use Rattle.tplane_paver.proofs.forest.join.Goals as goal
+use Rattle.disjoint_sets.proofs.Trees.{joins-found, written-set, max-below}
+use Rattle.disjoint_sets.proofs.forest.join.Goals as goal
 
 pub returns : goal.returns
 returns c =

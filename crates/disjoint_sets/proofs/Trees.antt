@@ -1,8 +1,9 @@
 -- Forests whose parents change.
 use Rattle.std.proofs.Common.{◌≡◌, ◌≢◌, ℕ, ◌<◌, ◌≤◌, ◌⊎◌, inl, inr, List, length, set, min, max, slice_index, arith, refl, sym, ap, subst, ◌∙◌, length-set}
 use Rattle.std.proofs.lemmas.List.{get_or-set_other, get_or-set_same}
-use Rattle.tplane_paver.specs.Forests.{Joined, Maps, IsParent, IsParentOr, GoDown, KeepsTrees, JoinsTrees}
-use Rattle.tplane_paver.proofs.Ways.{joined-then, joined-back, joined-self, joined-step, joined-map}
+use Rattle.disjoint_sets.specs.Ways.{Joined, Maps}
+use Rattle.disjoint_sets.specs.Trees.{IsParent, IsParentOr, GoDown, KeepsTrees, JoinsTrees}
+use Rattle.disjoint_sets.proofs.Ways.{joined-then, joined-back, joined-self, joined-step, joined-map}
 
 pub same-or : (i j : ℕ) → (i ≡ j) ⊎ (i ≢ j)
 same-or i j = at (three i j)

@@ -1,6 +1,7 @@
 use Rattle.std.proofs.Common.{◌<◌, length}
-use Rattle.tplane_paver.specs.Forests.{KeepsTrees, Joined, IsParent}
-use Rattle.tplane_paver.proofs.forest.find.Given as goal
+use Rattle.disjoint_sets.specs.Ways.{Joined}
+use Rattle.disjoint_sets.specs.Trees.{KeepsTrees, IsParent}
+use Rattle.disjoint_sets.proofs.forest.find.Given as goal
 
 -- the trees are the same, and the number is in the tree of the one that was asked for
 abbrev pub invariant-loop-parents : goal.invariant-loop-parents

@@ -1,6 +1,6 @@
 -- Ways of a relation.
 use Rattle.std.proofs.Common.{◌≡◌, ℕ, zero, suc, ◌⊎◌, inl, inr, refl, sym, subst}
-use Rattle.tplane_paver.specs.Forests.{Way, Joined, Maps}
+use Rattle.disjoint_sets.specs.Ways.{Way, Joined, Maps}
 
 way-then : (T : ℕ → ℕ → Type 0) (n m i j k : ℕ) → Way T n i j → Way T m j k → Joined T i k
 way-then T zero m i j k p q = (m, subst (λ (x : ℕ). Way T m x k) (sym p) q)
