@@ -83,10 +83,10 @@ none-reads os a b p = ap₂ reads_in (added-grid os [] a b p) (added-in os [] a 
 
 -- ---- the room for further contractors
 
-All-first : {X : Type 0} (P : X → Type 0) (xs ys : List X) → All P (xs ++ ys) → All P xs
+pub All-first : {X : Type 0} (P : X → Type 0) (xs ys : List X) → All P (xs ++ ys) → All P xs
 All-first P xs ys all k d l = subst P (get_or-append xs ys d k l) (all k d (omega (arith, l, length-append xs ys)))
 
-All-rest : {X : Type 0} (P : X → Type 0) (xs ys : List X) → All P (xs ++ ys) → All P ys
+pub All-rest : {X : Type 0} (P : X → Type 0) (xs ys : List X) → All P (xs ++ ys) → All P ys
 All-rest P xs ys all k d l = subst P (get_or-append-add xs ys k d) (all (length xs + k) d (omega (arith, l, length-append xs ys)))
 
 -- the first of several

@@ -90,7 +90,7 @@ built-more grid items first i x begun old new was table order inside longer buil
 -- ---- the room that the next record asks of the net
 
 -- what right records take, bind and time
-taken : (version end : ℕ) (before : List Item) (r : Item) → signals_in before ≤ 64 → IsRight version end before r → IsTaken before r
+pub taken : (version end : ℕ) (before : List Item) (r : Item) → signals_in before ≤ 64 → IsRight version end before r → IsTaken before r
 taken version end before (item.Deriv x rate) few right = let some = right.0 in omega (arith, some, few)
 taken version end before (item.Ping x y first last beacon near far) few right = (right.0.0, right.0.1, right.1.0, right.3)
 taken version end before r few right = tt
@@ -108,7 +108,7 @@ timed : (version end : ℕ) (before : List Item) (r : Item) → IsRight version 
 timed version end before (item.Eval x t z) right = named-below before t (right.1.0 0 t (omega arith))
 timed version end before r right = tt
 
-All-bounded : (xs : List Span) → All IsRange xs → All (IsBounded 500000000) xs
+pub All-bounded : (xs : List Span) → All IsRange xs → All (IsBounded 500000000) xs
 All-bounded xs all k d l = (all k d l).1
 
 -- the first records of a mission are sound
@@ -142,7 +142,7 @@ module _ (m : Mission) (is : IsMission m) (i : ℕ) (x : Item) (net : NetState A
   all-cells : (shape_by m.cuts m.items).cells ≤ 2000000
   all-cells = let e = cells-count m.cuts m.items (omega (arith, is.clock.grid.slices)) in omega (arith, e, is.few.cells)
 
-  next-cells : (with_owners net.store.shape (made (take i m.items) x)).cells ≤ 2000000
+  pub next-cells : (with_owners net.store.shape (made (take i m.items) x)).cells ≤ 2000000
   next-cells =
       let grows : Extends (shape_by m.cuts (take (i + 1) m.items)) (shape_by m.cuts m.items) =
       subst (λ (l : List Item). Extends (shape_by m.cuts (take (i + 1) m.items)) (shape_by m.cuts l)) (take-append-drop (i + 1) m.items) (shape-extends m.cuts (take (i + 1) m.items) (drop (i + 1) m.items)) in

@@ -48,7 +48,7 @@ written-record grid before (item.Each formula ls) =
     flat_map-append (written_of grid) (each_below (formula_at ls c) (length grid - 1)) (last ∷ []) ∙ ap (λ (l : List Constraint). l ++ last ∷ []) (written-formulas grid ls c (length grid - 1))
 written-record grid before r = refl
 
-written-records : (grid : List ℕ) (rs before : List Item) → flat_map (written_of grid) (contracts_from grid before rs) ≡ constraints_from grid before rs
+pub written-records : (grid : List ℕ) (rs before : List Item) → flat_map (written_of grid) (contracts_from grid before rs) ≡ constraints_from grid before rs
 written-records grid [] before = refl
 written-records grid (r ∷ rs) before =
     flat_map-append (written_of grid) (contracts_of grid before r) (contracts_from grid (before ++ r ∷ []) rs)
@@ -56,7 +56,7 @@ written-records grid (r ∷ rs) before =
 
 -- ---- projections
 
-all-projections : (s : Shape) (cs : List Constraint) → flat_map (constraint_projections s) (flat_map (written_of s.grid) cs) ≡ flat_map (constraint_projections s) cs
+pub all-projections : (s : Shape) (cs : List Constraint) → flat_map (constraint_projections s) (flat_map (written_of s.grid) cs) ≡ flat_map (constraint_projections s) cs
 all-projections s [] = refl
 all-projections s (c ∷ cs) =
     flat_map-append (constraint_projections s) (written_of s.grid c) (flat_map (written_of s.grid) cs) ∙ ap₂ (λ xs ys. xs ++ ys) (written-projections s c) (all-projections s cs)

@@ -32,7 +32,7 @@ use Rattle.any_ctc.proofs.Stable.{constraint-stable, IsWritten}
 use Rattle.mission_net.proofs.Shapes.{shape-extends, shape-grid}
 use Rattle.mission_net.proofs.Counts.{more-signals, more-variables}
 use Rattle.mission_net.proofs.Reading.{right-more}
-use Rattle.mission_net.proofs.Holding.{satisfies-in-range, satisfies-more, variable-in-range, rate-holds, Gains}
+use Rattle.mission_net.proofs.Holding.{satisfies-in-range, says-keeps, keeps-more, variable-in-range, rate-holds, Gains, KeepsFrom}
 use Rattle.mission_net.proofs.Fitting.{All-one, formula-all, record-of, record-written}
 
 pub All-flat_map : {X Y : Type 0} (P : Y → Type 0) (f : X → List Y) (xs : List X) → All (λ x. All P (f x)) xs → All P (flat_map f xs)
@@ -57,7 +57,7 @@ module _ (version end : ℕ) (grid : List ℕ) (t : Shape) (is : IsGrid t.grid) 
       (record-of version end grid t is same before past fewer r (omega (arith, more-signals grid (before ++ r ∷ []) t here, signals-last before r)) (omega (arith, more-variables grid (before ++ r ∷ []) t here, variables-last before r)) right.1)
       (records-of rs (before ++ r ∷ []) rest (right-more version end before r past right.0 right.1) right.2 (subst (λ (l : List Item). variables_in l ≤ 200000) (sym (append_assoc before (r ∷ []) rs)) few))
 
-  records-written : (rs before : List Item) → AreRight version end before → AreRightFrom version end before rs → variables_in (before ++ rs) ≤ 200000 → All IsWritten (constraints_from grid before rs)
+  pub records-written : (rs before : List Item) → AreRight version end before → AreRightFrom version end before rs → variables_in (before ++ rs) ≤ 200000 → All IsWritten (constraints_from grid before rs)
   records-written [] before past right few = All-nil IsWritten
   records-written (r ∷ rs) before past right few =
       let fewer : variables_in before ≤ 200000 = omega (arith, few, variables-append before (r ∷ rs)) in
@@ -81,7 +81,7 @@ module _ (version end : ℕ) (grid : List ℕ) (a : Assignment) (t : Shape) (is 
   gains-over x None h = tt
   gains-over x (Some v) h = subst (λ (n : ℕ). (k : ℕ) → k < n → value_at a x (k + 1) ≡ value_at a x k +ℤ value_at a v k) (sym ends) h
 
-  evaluation-says : (before : List Item) (x u z : ℕ) (declared : Span) → SatisfiesFrom end a [] before → IsValueAt end a x u z → Holds declared (number_of a u) → IsEvaluation t a x (rate_in before x) u z declared
+  evaluation-says : (before : List Item) (x u z : ℕ) (declared : Span) → KeepsFrom end a [] before → IsValueAt end a x u z → Holds declared (number_of a u) → IsEvaluation t a x (rate_in before x) u z declared
   evaluation-says before x u z declared past says inside = record {
     tick = says.tick;
     time = says.time;
@@ -98,7 +98,7 @@ module _ (version end : ℕ) (grid : List ℕ) (a : Assignment) (t : Shape) (is 
   mark-says before (Some beacon) says = All-nil (Satisfies t a)
   mark-says before None says = All-one (Satisfies t a) (ConstellOf (point_at (variables_in before + 3)) (marks_in before)) says
 
-  ping-says : (before : List Item) (x y first last : ℕ) (near far : ℤ) (beacon : Option ℕ) → SatisfiesFrom end a [] before → Holds (ticks_from first last) (number_of a (variables_in before)) → IsValueAt end a x (variables_in before) (variables_in before + 1)
+  ping-says : (before : List Item) (x y first last : ℕ) (near far : ℤ) (beacon : Option ℕ) → KeepsFrom end a [] before → Holds (ticks_from first last) (number_of a (variables_in before)) → IsValueAt end a x (variables_in before) (variables_in before + 1)
       → IsValueAt end a y (variables_in before) (variables_in before + 2) → Satisfies t a (DistOf (point_at (variables_in before + 1)) (target_of before beacon) near far) → IsAtMark a before beacon
       → All (Satisfies t a) (ping_constraints before x y first last near far beacon)
   ping-says before x y first last near far beacon past inside one other distance mark =
@@ -109,7 +109,7 @@ module _ (version end : ℕ) (grid : List ℕ) (a : Assignment) (t : Shape) (is 
       (All-cons (Satisfies t a) second (third ∷ mark_constraints before beacon) (evaluation-says before y v (v + 2) (ticks_from first last) past other inside)
       (All-cons (Satisfies t a) third (mark_constraints before beacon) distance (mark-says before beacon mark)))
 
-  record-says : (before : List Item) (r : Item) → IsRight version end before r → SatisfiesFrom end a [] before → Says end a before r → All (Satisfies t a) (constraints_of grid before r)
+  record-says : (before : List Item) (r : Item) → IsRight version end before r → KeepsFrom end a [] before → Says end a before r → All (Satisfies t a) (constraints_of grid before r)
   record-says before (item.Signal name range) good past says =
       All-each_below (Satisfies t a) (λ i. SliceOf (signals_in before) i ∷ []) (length grid - 1) (λ i li. All-one (Satisfies t a) (SliceOf (signals_in before) i) tt)
   record-says before (item.Deriv x rate) good past says =
@@ -138,13 +138,13 @@ module _ (version end : ℕ) (grid : List ℕ) (a : Assignment) (t : Shape) (is 
   record-says before (item.Single formula ls) good past says = All-one (Satisfies t a) (ExprOf Once ls (comparison_of formula)) says.means
   record-says before r good past says = All-nil (Satisfies t a)
 
-  pub records-say : (rs before : List Item) → AreRightFrom version end before rs → SatisfiesFrom end a [] before → SatisfiesFrom end a before rs → All (Satisfies t a) (constraints_from grid before rs)
+  pub records-say : (rs before : List Item) → AreRightFrom version end before rs → KeepsFrom end a [] before → SatisfiesFrom end a before rs → All (Satisfies t a) (constraints_from grid before rs)
   records-say [] before right past says = All-nil (Satisfies t a)
   records-say (r ∷ rs) before right past says =
       All-append (Satisfies t a) (constraints_of grid before r) (constraints_from grid (before ++ r ∷ []) rs)
-      (record-says before r right.1 past says.0) (records-say rs (before ++ r ∷ []) right.2 (satisfies-more end a before r past says.0) says.1)
+      (record-says before r right.1 past says.0) (records-say rs (before ++ r ∷ []) right.2 (keeps-more end a before r past says.0.made (says-keeps end a before r says.0)) says.1)
 
-All-three : {X : Type 0} (P Q R S : X → Type 0) (xs : List X) → ((x : X) → P x → Q x → R x → S x) → All P xs → All Q xs → All R xs → All S xs
+pub All-three : {X : Type 0} (P Q R S : X → Type 0) (xs : List X) → ((x : X) → P x → Q x → R x → S x) → All P xs → All Q xs → All R xs → All S xs
 All-three P Q R S xs f h g i k d l = f _ (h k d l) (g k d l) (i k d l)
 
 module _ (grid : List ℕ) (is : IsGrid grid) (items : List Item) (version : ℕ) (sound : AreSound version (last_tick grid) items) (a : Assignment) (says : SatisfiesAll grid a items) where

@@ -16,7 +16,7 @@ use Rattle.mission_net.proofs.Counts.{signals-count, variables-count, signals-va
 
 -- ---- the signals and variables of a record lie in their declared ranges
 
-AreInRange-append : (end : ℕ) (a : Assignment) (xs ys : List Owner) (s : Shape) → AreInRange end s a xs → AreInRange end (with_owners s xs) a ys → AreInRange end s a (xs ++ ys)
+pub AreInRange-append : (end : ℕ) (a : Assignment) (xs ys : List Owner) (s : Shape) → AreInRange end s a xs → AreInRange end (with_owners s xs) a ys → AreInRange end s a (xs ++ ys)
 AreInRange-append end a [] ys s p q = q
 AreInRange-append end a (o ∷ xs) ys s p q = (p.0, AreInRange-append end a xs ys (with_owner s o) p.1 q)
 
@@ -24,7 +24,7 @@ signals-in : (end : ℕ) (s : Shape) (a : Assignment) (before : List Item) (r : 
 signals-in end s a before (item.Signal name range) count h = (subst (λ (n : ℕ). (k : ℕ) → k ≤ end → Holds range (value_at a n k)) count h, tt)
 signals-in end s a before r count h = tt
 
-variables-in : (end : ℕ) (a : Assignment) (ranges : List Span) (s : Shape) (n : ℕ) → n ≡ length s.vars → AreIn a n ranges → AreInRange end s a (map VariableIn ranges)
+pub variables-in : (end : ℕ) (a : Assignment) (ranges : List Span) (s : Shape) (n : ℕ) → n ≡ length s.vars → AreIn a n ranges → AreInRange end s a (map VariableIn ranges)
 variables-in end a [] s n count h = tt
 variables-in end a (range ∷ ranges) s n count h =
     (subst (λ (v : ℕ). Holds range (number_of a v)) count h.0, variables-in end a ranges (with_var s) (n + 1) (omega (arith, count, length-append s.vars (s.cells ∷ []))) h.1)
@@ -41,6 +41,38 @@ satisfies-in-range end grid a (r ∷ rs) before h =
     (says-in-range end (shape_by grid before) a before r (sym (signals-count grid before)) (sym (variables-count grid before)) h.0)
     (subst (λ (s : Shape). AreInRange end s a (owners_from (before ++ r ∷ []) rs)) (shape-snoc grid before r) (satisfies-in-range end grid a rs (before ++ r ∷ []) h.1))
 
+-- ---- what is needed of the records before one: the ranges of their variables, and their rates
+
+-- v is the rate of x: what it gains from each tick to the next
+abbrev pub Gains : ℕ → Assignment → ℕ → ℕ → Type 0
+Gains end a x v = (k : ℕ) → k < end → value_at a x (k + 1) ≡ value_at a x k +ℤ value_at a v k
+
+-- what a record that gives a signal a rate says
+abbrev pub KeepsRate : ℕ → Assignment → Item → Type 0
+KeepsRate end a (item.Deriv x rate) = Gains end a x.0 rate.0
+KeepsRate end a r = Unit {0}
+
+-- Each variable that records make lies in its declared range, and each rate is one. What else they say may fail.
+abbrev pub KeepsFrom : ℕ → Assignment → List Item → List Item → Type 0
+KeepsFrom end a before [] = Unit {0}
+KeepsFrom end a before (r ∷ rs) = AreIn a (variables_in before) (ranges_made before r) × KeepsRate end a r × KeepsFrom end a (before ++ r ∷ []) rs
+
+pub says-keeps : (end : ℕ) (a : Assignment) (before : List Item) (r : Item) → Says end a before r → KeepsRate end a r
+says-keeps end a before (item.Deriv x rate) says = says.means
+says-keeps end a before r says = tt
+
+keeps-append : (end : ℕ) (a : Assignment) (xs ys before : List Item) → KeepsFrom end a before xs → KeepsFrom end a (before ++ xs) ys → KeepsFrom end a before (xs ++ ys)
+keeps-append end a [] ys before p q = subst (λ (b : List Item). KeepsFrom end a b ys) (append-nil before) q
+keeps-append end a (r ∷ xs) ys before p q = (
+  p.0,
+  p.1,
+  keeps-append end a xs ys (before ++ r ∷ []) p.2 (subst (λ (b : List Item). KeepsFrom end a b ys) (sym (append_assoc before (r ∷ []) xs)) q),
+)
+
+-- one more record
+pub keeps-more : (end : ℕ) (a : Assignment) (before : List Item) (r : Item) → KeepsFrom end a [] before → AreIn a (variables_in before) (ranges_made before r) → KeepsRate end a r → KeepsFrom end a [] (before ++ r ∷ [])
+keeps-more end a before r p inside rate = keeps-append end a before (r ∷ []) [] p (inside, rate, tt)
+
 -- ---- each variable lies in its declared range
 
 AreIn-append : (a : Assignment) (xs ys : List Span) (n : ℕ) → AreIn a n xs → AreIn a (n + length xs) ys → AreIn a n (xs ++ ys)
@@ -49,29 +81,25 @@ AreIn-append a (x ∷ xs) ys n p q =
     let e : n + suc (length xs) ≡ (n + 1) + length xs = omega arith in
     (p.0, AreIn-append a xs ys (n + 1) p.1 (subst (λ (m : ℕ). AreIn a m ys) e q))
 
-AreIn-at : (a : Assignment) (xs : List Span) (n i : ℕ) (d : Span) → AreIn a n xs → i < length xs → Holds (slice_index_or xs i d) (number_of a (n + i))
+pub AreIn-at : (a : Assignment) (xs : List Span) (n i : ℕ) (d : Span) → AreIn a n xs → i < length xs → Holds (slice_index_or xs i d) (number_of a (n + i))
 AreIn-at a [] n i d h l = absurd (omega (arith, l))
 AreIn-at a (x ∷ xs) n zero d h l = let e : n ≡ n + 0 = omega arith in subst (λ (v : ℕ). Holds x (number_of a v)) e h.0
 AreIn-at a (x ∷ xs) n (suc i) d h l =
     let e : (n + 1) + i ≡ n + suc i = omega arith in
     subst (λ (v : ℕ). Holds (slice_index_or xs i d) (number_of a v)) e (AreIn-at a xs (n + 1) i d h.1 (omega (arith, l)))
 
-all-in : (end : ℕ) (a : Assignment) (rs before : List Item) → SatisfiesFrom end a before rs → AreIn a (variables_in before) (ranges_from before rs)
+all-in : (end : ℕ) (a : Assignment) (rs before : List Item) → KeepsFrom end a before rs → AreIn a (variables_in before) (ranges_from before rs)
 all-in end a [] before h = tt
 all-in end a (r ∷ rs) before h =
-    AreIn-append a (ranges_made before r) (ranges_from (before ++ r ∷ []) rs) (variables_in before) h.0.made
-    (subst (λ (m : ℕ). AreIn a m (ranges_from (before ++ r ∷ []) rs)) (variables-last before r ∙ ap (λ (m : ℕ). variables_in before + m) (sym (length-ranges_made before r))) (all-in end a rs (before ++ r ∷ []) h.1))
+    AreIn-append a (ranges_made before r) (ranges_from (before ++ r ∷ []) rs) (variables_in before) h.0
+    (subst (λ (m : ℕ). AreIn a m (ranges_from (before ++ r ∷ []) rs)) (variables-last before r ∙ ap (λ (m : ℕ). variables_in before + m) (sym (length-ranges_made before r))) (all-in end a rs (before ++ r ∷ []) h.2))
 
-pub variable-in-range : (end : ℕ) (a : Assignment) (items : List Item) → SatisfiesFrom end a [] items → (v : ℕ) → v < variables_in items → Holds (variable_range items v) (number_of a v)
+pub variable-in-range : (end : ℕ) (a : Assignment) (items : List Item) → KeepsFrom end a [] items → (v : ℕ) → v < variables_in items → Holds (variable_range items v) (number_of a v)
 variable-in-range end a items h v l =
     let e : 0 + v ≡ v = omega arith in
     subst (λ (u : ℕ). Holds (variable_range items v) (number_of a u)) e (AreIn-at a (variable_ranges items) 0 v (point (pos 0)) (all-in end a items [] h) (omega (arith, l, length-variable_ranges items)))
 
 -- ---- each rate is one
-
--- v is the rate of x: what it gains from each tick to the next
-abbrev pub Gains : ℕ → Assignment → ℕ → ℕ → Type 0
-Gains end a x v = (k : ℕ) → k < end → value_at a x (k + 1) ≡ value_at a x k +ℤ value_at a v k
 
 some_same : (u v : ℕ) → ◌≡◌ {A = Option ℕ} (Some u) (Some v) → u ≡ v
 some_same u v e = cc e
@@ -82,21 +110,12 @@ rate-or_more end a x v y rate more true e here rest found =
     subst (λ (u : ℕ). Gains end a x u) (some_same rate v found) (subst (λ (u : ℕ). Gains end a u rate) same here)
 rate-or_more end a x v y rate more false e here rest found = rest found
 
-pub rates-hold : (end : ℕ) (a : Assignment) (rs before : List Item) (x v : ℕ) → SatisfiesFrom end a before rs → rate_in rs x ≡ Some v → Gains end a x v
+pub rates-hold : (end : ℕ) (a : Assignment) (rs before : List Item) (x v : ℕ) → KeepsFrom end a before rs → rate_in rs x ≡ Some v → Gains end a x v
 rates-hold end a [] before x v h found = cc found
 rates-hold end a (item.Deriv y rate ∷ rs) before x v h found =
-    rate-or_more end a x v y.0 rate.0 (rate_in rs x) (x == y.0) refl h.0.means (rates-hold end a rs (before ++ item.Deriv y rate ∷ []) x v h.1) found
-rates-hold end a (r ∷ rs) before x v h found = rates-hold end a rs (before ++ r ∷ []) x v h.1 found
+    rate-or_more end a x v y.0 rate.0 (rate_in rs x) (x == y.0) refl h.1 (rates-hold end a rs (before ++ item.Deriv y rate ∷ []) x v h.2) found
+rates-hold end a (r ∷ rs) before x v h found = rates-hold end a rs (before ++ r ∷ []) x v h.2 found
 
-pub rate-holds : (end : ℕ) (a : Assignment) (items : List Item) (x : ℕ) (o : Option ℕ) → SatisfiesFrom end a [] items → rate_in items x ≡ o → IfSome o (Gains end a x)
+pub rate-holds : (end : ℕ) (a : Assignment) (items : List Item) (x : ℕ) (o : Option ℕ) → KeepsFrom end a [] items → rate_in items x ≡ o → IfSome o (Gains end a x)
 rate-holds end a items x None h e = tt
 rate-holds end a items x (Some v) h e = rates-hold end a items [] x v h e
-
--- ---- one more record that is satisfied
-
-satisfies-append : (end : ℕ) (a : Assignment) (xs ys before : List Item) → SatisfiesFrom end a before xs → SatisfiesFrom end a (before ++ xs) ys → SatisfiesFrom end a before (xs ++ ys)
-satisfies-append end a [] ys before p q = subst (λ (b : List Item). SatisfiesFrom end a b ys) (append-nil before) q
-satisfies-append end a (r ∷ xs) ys before p q = (p.0, satisfies-append end a xs ys (before ++ r ∷ []) p.1 (subst (λ (b : List Item). SatisfiesFrom end a b ys) (sym (append_assoc before (r ∷ []) xs)) q))
-
-pub satisfies-more : (end : ℕ) (a : Assignment) (before : List Item) (r : Item) → SatisfiesFrom end a [] before → Says end a before r → SatisfiesFrom end a [] (before ++ r ∷ [])
-satisfies-more end a before r p says = satisfies-append end a before (r ∷ []) [] p (says, tt)

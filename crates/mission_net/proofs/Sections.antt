@@ -74,7 +74,7 @@ module _ (grid : List ℕ) (before more : List Item) (none : IsShape (no_shape g
   }
 
 -- the projections of what stands under the numbers are those of the constraints there
-places-projections : (s : Shape) (cs : List (Option AnyCtc)) → flat_map (λ c. of_place any_projections c s) cs ≡ flat_map (constraint_projections s) (flat_map stands_for cs)
+pub places-projections : (s : Shape) (cs : List (Option AnyCtc)) → flat_map (λ c. of_place any_projections c s) cs ≡ flat_map (constraint_projections s) (flat_map stands_for cs)
 places-projections s [] = refl
 places-projections s (None ∷ cs) = places-projections s cs
 places-projections s (Some c ∷ cs) = ap (λ (ps : List Projection). any_projections c s ++ ps) (places-projections s cs)
@@ -96,12 +96,12 @@ net-projections grid items net holds =
     ∙ contract-projections (shape_by grid items) grid items (shape-grid grid items)
 
 -- a box that a contractor still narrows is not empty
-still-some : {C : Type 0} (projections : C → List Projection) (cs : List C) (box : Option (List Span)) (k : ℕ) → StillNarrows projections cs box k → IsSome box
+pub still-some : {C : Type 0} (projections : C → List Projection) (cs : List C) (box : Option (List Span)) (k : ℕ) → StillNarrows projections cs box k → IsSome box
 still-some projections cs None k h = absurd h.2
 still-some projections cs (Some xs) k h = refl
 
 -- the greatest below a box that lost no common fixpoint is the greatest of all
-greatest-of : (ps : List Projection) (all box new : Option (List Span)) → IsBelowBox box all → KeepsFixpoints ps all box → IsGreatest ps box new → IsGreatest ps all new
+pub greatest-of : (ps : List Projection) (all box new : Option (List Span)) → IsBelowBox box all → KeepsFixpoints ps all box → IsGreatest ps box new → IsGreatest ps all new
 greatest-of ps all box None low keeps g = λ q fix below. g q fix (keeps q fix below)
 greatest-of ps all box (Some r) low keeps g = (g.0, IsBelowBox-trans (Some r) box all g.1 low, λ q fix below. g.2 q fix (keeps q fix below))
 
@@ -128,7 +128,7 @@ settled-section grid items budget net new (Spent id) holds keeps settles = (
 )
 
 -- the cause of a spent answer, in the words of the records
-get-map : {X Y : Type 0} (f : X → Y) (xs : List X) (k : ℕ) (x : X) → slice_get xs k ≡ Some x → slice_get (map f xs) k ≡ Some (f x)
+pub get-map : {X Y : Type 0} (f : X → Y) (xs : List X) (k : ℕ) (x : X) → slice_get xs k ≡ Some x → slice_get (map f xs) k ≡ Some (f x)
 get-map f [] k x e = absurd (cc)
 get-map f (y ∷ xs) zero x e = ap (option_map f) e
 get-map f (y ∷ xs) (suc k) x e = get-map f xs k x e

@@ -65,30 +65,30 @@ impl Made {
         *self.signals.allocator()
     }
 
-    /// How many signals there are.
-    pub(crate) fn signals(&self) -> usize
+    /// How many signals there are, numbered from 0.
+    pub fn signals(&self) -> usize
         ensures { result ≡ length self.now.signals }
     {
         self.signals.len()
     }
 
-    /// How many variables there are.
-    pub(crate) fn variables(&self) -> usize
+    /// How many variables there are, those without a name included, numbered from 0.
+    pub fn variables(&self) -> usize
         ensures { result ≡ length self.now.variables }
     {
         self.variables.len()
     }
 
-    /// The declared ranges of the signals from a number on.
-    pub(crate) fn signals_from(&self, first: usize) -> &[Interval]
+    /// The declared ranges of the signals from a number on, in order.
+    pub fn signals_from(&self, first: usize) -> &[Interval]
         requires { first ≤ length self.now.signals }
         ensures { result.now ≡ drop first self.now.signals }
     {
         &self.signals[first..]
     }
 
-    /// The declared ranges of the variables from a number on.
-    pub(crate) fn variables_from(&self, first: usize) -> &[Interval]
+    /// The declared ranges of the variables from a number on, in order.
+    pub fn variables_from(&self, first: usize) -> &[Interval]
         requires { first ≤ length self.now.variables }
         ensures { result.now ≡ drop first self.now.variables }
     {
@@ -127,7 +127,7 @@ impl Made {
     }
 
     /// Takes the next record, after the records before it. After want of memory the table is not built on.
-    pub(crate) fn add(&mut self, before: &[Item], item: &Item) -> Result<(), NoMemory>
+    pub fn add(&mut self, before: &[Item], item: &Item) -> Result<(), NoMemory>
         requires before { IsTableOf self.old before.now }
         requires taken { IsTaken before.now item.now }
         requires few { length self.old.variables + 2 < 4294967296 }
