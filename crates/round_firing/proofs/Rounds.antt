@@ -38,12 +38,11 @@ set-rests (w ∷ ws) (suc k) l = set-rests ws k (omega (arith, l))
 -- what the firing of one that waited says, of the box and of who rests
 pub fired-says : (ps : List Projection) (a b : State) (before after : List Bool) (id : ℕ) (x : Revised) (P Q : Type 0) → id < length before → Fires ps a b x → MatchRevised x (after ≡ set before id false) P Q
     → MatchRevised x ((b.box ≡ a.box) × (slice_get after id ≡ Some false) × ((k : ℕ) → slice_get before k ≡ Some false → slice_get after k ≡ Some false)) (IsSome b.box × (measure_of b.box < measure_of a.box)) (IsNone b.box)
-fired-says ps a b before after id Same P Q l f w =
-    (
-      said ps a b Same f,
-      ap (λ (ws : List Bool). slice_get ws id) w ∙ set-rests before id l,
-      λ k e. ap (λ (ws : List Bool). slice_get ws k) w ∙ rest-set before id k e,
-    )
+fired-says ps a b before after id Same P Q l f w = (
+  said ps a b Same f,
+  ap (λ (ws : List Bool). slice_get ws id) w ∙ set-rests before id l,
+  λ k e. ap (λ (ws : List Bool). slice_get ws k) w ∙ rest-set before id k e,
+)
 fired-says ps a b before after id Narrowed P Q l f w = said ps a b Narrowed f
 fired-says ps a b before after id Empty P Q l f w = said ps a b Empty f
 
@@ -66,10 +65,13 @@ below k n h = grind arith
 
 same-says : (old mid new : Option (List Span)) (before after : List Bool) (number : ℕ) (answer : Revised) → new ≡ mid → slice_get after number ≡ Some false → ((k : ℕ) → slice_get before k ≡ Some false → slice_get after k ≡ Some false)
     → Says old mid before number answer → Says old new after (number + 1) answer
-same-says old mid new before after number Same e here rest says = (e ∙ says.0, λ k l. elim (below k number l) [
-  | inl b ↦ rest k (says.1 k b)
-  | inr s ↦ subst (λ (j : ℕ). slice_get after j ≡ Some false) (sym s) here
-])
+same-says old mid new before after number Same e here rest says = (
+  e ∙ says.0,
+  λ k l. elim (below k number l) [
+    | inl b ↦ rest k (says.1 k b)
+    | inr s ↦ subst (λ (j : ℕ). slice_get after j ≡ Some false) (sym s) here
+  ],
+)
 same-says old mid new before after number Narrowed e here rest says = subst (λ (b : Option (List Span)). measure_of b < measure_of old) (sym e) says
 same-says old mid new before after number Empty e here rest says = says
 
@@ -109,9 +111,9 @@ all-false ws none k d l = some-same (get_or ws k d) false (sym (slice_get-get_or
 pub round-says : {C : Type 0} (projections : C → Shape → List Projection) (scope : C → Shape → List ℕ) (fits : C → Shape → Option (List Span) → Type 0) (old new : NetState C) (number : ℕ) (answer : Revised) → IsRound projections old new number answer
     → IsNet projections scope fits new → length new.contractors ≤ number
     → MatchRevised answer
-        ((new.store.box ≡ old.store.box) × SettlesAs (λ c. of_place projections c old.store.shape) old.contractors 0 old.store new.store Fixpoint)
-        (IsSome new.store.box × (measure_of new.store.box < measure_of old.store.box))
-        (IsNone new.store.box)
+    ((new.store.box ≡ old.store.box) × SettlesAs (λ c. of_place projections c old.store.shape) old.contractors 0 old.store new.store Fixpoint)
+    (IsSome new.store.box × (measure_of new.store.box < measure_of old.store.box))
+    (IsNone new.store.box)
 round-says projections scope fits old new number Same is net all = (
   is.says.0,
   net-fixpoint (of_place projections) (of_place scope) (fits_place fits) old.contractors 0 old.store new is.contractors is.narrowed is.some net.places
