@@ -11,7 +11,7 @@ pub fn alone(alloc: Global, count: u32) -> Result<Vec<u32>, AllocError>
     ensures len { IfOk result (λ v. length v.items ≡ count) }
     ensures own { IfOk result (λ v. (k : ℕ) → k < count → slice_index v.items k ≡ k) }
 {
-    let mut parents = Vec::with_capacity(alloc, count)?;
+    let mut parents = Vec::with_capacity(alloc, count as usize)?;
     for k in 0..count {
         parents.push(k)?;
     }
