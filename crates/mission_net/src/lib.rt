@@ -15,5 +15,5 @@ mod section;
 pub use any_ctc::AnyCtc;
 pub use laws::settled_section_law;
 pub use made::Made;
-pub use missions::build;
+pub use missions::{build, build_on};
 pub use section::{SectionEnd, next_section};

@@ -18,7 +18,9 @@ use std::alloc::Global;
 use tube_io::NoMemory;
 
 /// Adds the cells and contractors of the records from item `first` on, below item `last`, in order, and takes the records into the table.
-pub(crate) fn build_on(
+///
+/// The table is that of the records before. It is [`build`] without one to be made again for each part of a mission.
+pub fn build_on(
     mission: &Mission,
     first: usize,
     last: usize,

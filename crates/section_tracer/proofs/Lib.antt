@@ -1,0 +1,4 @@
+pub mod Firing
+pub mod Going
+pub mod Tracing
+pub mod Bundling

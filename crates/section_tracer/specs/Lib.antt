@@ -1,0 +1,4 @@
+pub mod Firings
+pub mod Texts
+pub mod Leaving
+pub mod Bundled
