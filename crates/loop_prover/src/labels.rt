@@ -17,7 +17,7 @@ use tube_io::NoMemory;
 use tube_store::{SignalId, Store};
 
 /// What a signal may change by from tick `a` to tick `b`.
-fn change(store: &Store, x: SignalId, a: u32, b: u32) -> Interval
+pub(crate) fn change(store: &Store, x: SignalId, a: u32, b: u32) -> Interval
     requires filled { IsSome store.now.box }
     requires x { x.0 < length store.now.shape.signals }
     requires a { a ≤ last_tick store.now.shape.grid }

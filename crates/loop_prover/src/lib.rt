@@ -5,10 +5,12 @@
 #![tactic(auto)]
 
 mod bounds;
+mod holds;
 mod labels;
 mod laws;
 
 pub use bounds::{greatest_left, greatest_step, step_bound};
+pub use holds::label_holds;
 pub use labels::{label, labels_of};
 pub use laws::labels_law;
 pub use loop_degree::{Label, check_cells, degree_law};
