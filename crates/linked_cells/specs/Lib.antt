@@ -1,0 +1,3 @@
+pub mod Places
+pub mod Classes
+pub mod Chosen
